@@ -4,6 +4,8 @@ use Rattle.std.proofs.Common.{◌++◌, length, take, Option, Some, None, Result
 use Rattle.std.proofs.Common.{subst, ap, ◌∙◌, arith, append_assoc}
 use Rattle.std.specs.Prelude.{min}
 use Rattle.std.proofs.lemmas.List.{append-nil, length-append, length-take, take_all}
+use Rattle.mc_bytes.specs.Reading.{IsBytes}
+use Rattle.mc_bytes.specs.NumberLaws.{IsBytes-take}
 use Rattle.mc_frame.specs.declared.fault.FrameFault.{FrameFault}
 use Rattle.mc_frame.specs.declared.fault.Take.{Take}
 use Rattle.mc_frame.specs.declared.fault.Take.TheVariants as takes
@@ -18,14 +20,19 @@ use Rattle.mc_wire.proofs.Counts.{StandsOrRises-refl, StandsOrRises-trans}
 use Rattle.mc_bot.specs.declared.bot_fault.BotFault.{BotFault}
 use Rattle.mc_bot.specs.declared.bot_fault.BotFault.TheVariants as faults
 use Rattle.mc_bot.specs.Arriving.{Arriving, holding, GoesWith, IsPatient, to_come, tries, ReadAs}
-use Rattle.mc_bot.specs.Arriving.{HasGot, HasTries, HasRead, NextAs, HasNext}
+use Rattle.mc_bot.specs.Arriving.{HasGot, HasPassed, HasTries, HasRead, NextAs, HasNext}
 use Rattle.mc_bot.proofs.Coming.{no_exchange, then_exchanged}
 
 -- ---- one read
 
 -- nothing was told and nothing read
-pub told_same : (told told' : Option LinkTold) → told' ≡ told → Exchanges told told' [] [] []
+pub told_same : (told told' : Option LinkTold) → told' ≡ told → HasPassed told told' [] [] []
 told_same told told' same = rw same (no_exchange told)
+
+-- the first bytes of a buffer were given
+pub told_given : (buffer : List ℕ) (n : ℕ) (told told' : Option LinkTold) → IsBytes buffer →
+    Exchanges told told' [] (take n buffer) [] → HasPassed told told' [] (take n buffer) []
+told_given buffer n told told' fits exchanged = (exchanged, IsBytes-take n buffer fits)
 
 -- a piece for which there is room is held whole
 pub fed_whole : (old new : Splitting) (piece : List ℕ) (count : ℕ) → old.fault ≡ None →
@@ -177,7 +184,7 @@ to_come_quiet s s' answers answers' less same =
 pub record HasWaited (old now : Arriving) (told told' : Option LinkTold) (stage : LinkStage)
     (faults_ faults' answers answers' : ℕ) : Type 0 where
   pub given : List ℕ
-  pub exchanged : Exchanges told told' [] given []
+  pub exchanged : HasPassed told told' [] given []
   pub held : now.splitting ≡ holding old.splitting given
   pub patience : now.patience ≡ old.patience
   pub goes : GoesWith now stage
@@ -330,3 +337,21 @@ waited_read_fails old now now1 next last told told1 told2 stage stage' f f' a a'
     let P : Arriving → Type 0 = λ it. HasRead it next told1 told2 stage' (Err fault) in
     waited_fails old now next last told told1 told2 stage stage' f f' a a' fault waited took.0
     (subst P (kept ∙ still) read)
+
+-- and the read gave something, or was quiet
+pub waited_read_more : (old now now1 next : Arriving) (told told1 told2 : Option LinkTold)
+    (stage stage' : LinkStage) (f f1 f2 a a1 a2 : ℕ) →
+    HasWaited old now told told1 stage f f1 a a1 →
+    now1 ≡ record now { splitting = now1.splitting } →
+    Takes now.splitting takes.More now1.splitting →
+    HasRead now1 next told1 told2 stage' (Ok tt) → StandsOrRises f1 f2 →
+    to_come a2 next.splitting ≤ to_come a1 now1.splitting →
+    HasWaited old next told told2 stage' f f2 a a2
+waited_read_more old now now1 next told told1 told2 stage stage' f f1 f2 a a1 a2 waited kept took
+    read counts fewer =
+    let still : ◌≡◌ {A = Arriving} (record now { splitting = now1.splitting }) now =
+    (λ i. record now { splitting = took.2 i }) in
+    let P : Arriving → Type 0 = λ it. HasRead it next told1 told2 stage' (Ok tt) in
+    let Q : Splitting → Type 0 = λ s. to_come a2 next.splitting ≤ to_come a1 s in
+    waited_more old now next told told1 told2 stage stage' f f1 f2 a a1 a2 waited
+    (subst P (kept ∙ still) read) counts (subst Q took.2 fewer)

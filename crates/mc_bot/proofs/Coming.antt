@@ -1,8 +1,10 @@
 -- Steps of a bot behind one another.
-use Rattle.std.proofs.Common.{◌≡◌, ℕ, ◌+◌, ◌-◌, ◌^◌, ◌<◌, List, [], ◌∷◌, ◌++◌, length, Option, Some, take, drop}
-use Rattle.std.proofs.Common.{None, Err, refl, sym, subst, ap, ◌∙◌, arith, append_assoc}
+use Rattle.std.proofs.Common.{◌≡◌, ℕ, zero, suc, ◌+◌, ◌-◌, ◌^◌, ◌<◌, List, [], ◌∷◌, ◌++◌, length, Option, Some, take, drop}
+use Rattle.std.proofs.Common.{None, Ok, Err, refl, sym, subst, ap, ◌∙◌, arith, append_assoc}
 use Rattle.std.specs.Prelude.{min}
+use Rattle.std.proofs.lemmas.Bool.Decides.{nat_tests}
 use Rattle.std.proofs.lemmas.List.{length-append, append-nil, take-append-drop}
+use Rattle.mc_bytes.specs.Reading.{IsBytes}
 use Rattle.mc_frame.specs.declared.fault.FrameFault.{FrameFault}
 use Rattle.mc_frame.specs.declared.fault.FrameFault.TheVariants.{LongLength, ZeroLength}
 use Rattle.mc_frame.specs.Cut.{Cut, Ends, IsCutAt, SpellsFrames, kept_count}
@@ -10,6 +12,7 @@ use Rattle.mc_wire.specs.LinkStage.{LinkStage}
 use Rattle.mc_wire.specs.LinkTold.{LinkTold, Exchanges}
 use Rattle.mc_bot.specs.declared.bot_fault.BotFault.{BotFault}
 use Rattle.mc_bot.specs.declared.bot_fault.BotFault.TheVariants as faults
+use Rattle.mc_bot.specs.Arriving.{HasPassed}
 use Rattle.mc_bot.specs.Playing.{Bot, Course, goes, ends, then_play, all_sent}
 use Rattle.mc_bot.specs.Played.{FailsAs, HasSent}
 use Rattle.mc_bot.specs.Steps.{Standing, Keeping, Frames, HasCome, HasFailed, bot_at}
@@ -17,26 +20,51 @@ use Rattle.mc_bot.proofs.Growing.{Keeps, then_keeps}
 
 -- ---- what the link tells
 
-pub no_exchange : (a : Option LinkTold) → Exchanges a a [] [] []
-no_exchange None = tt
-no_exchange (Some a) = record {
+nothing_told : (a : Option LinkTold) → Exchanges a a [] [] []
+nothing_told None = tt
+nothing_told (Some a) = record {
   asked_to = sym (append-nil a.ports);
   gave = refl;
   took = sym (append-nil a.taken);
 }
 
-pub then_exchanged : (a b c : Option LinkTold) (ports given sent given' sent' : List ℕ) →
+no_bytes : IsBytes []
+no_bytes i = omega arith
+
+more_bytes : (one two : List ℕ) → IsBytes one → IsBytes two → IsBytes (one ++ two)
+more_bytes [] two one_fits two_fits i = two_fits i
+more_bytes (b ∷ one) two one_fits two_fits zero = one_fits zero
+more_bytes (b ∷ one) two one_fits two_fits (suc i) =
+    more_bytes one two (λ n. one_fits (suc n)) two_fits i
+
+pub no_exchange : (a : Option LinkTold) → HasPassed a a [] [] []
+no_exchange a = (nothing_told a, no_bytes)
+
+-- no byte was given
+pub none_given : (a b : Option LinkTold) (ports sent : List ℕ) → Exchanges a b ports [] sent →
+    HasPassed a b ports [] sent
+none_given a b ports sent exchanged = (exchanged, no_bytes)
+
+told_more : (a b c : Option LinkTold) (ports given sent given' sent' : List ℕ) →
     Exchanges a b ports given sent → Exchanges b c [] given' sent' →
     Exchanges a c ports (given ++ given') (sent ++ sent')
-then_exchanged a b None ports given sent given' sent' one two = tt
-then_exchanged a None (Some c) ports given sent given' sent' one two = absurd two
-then_exchanged None (Some b) (Some c) ports given sent given' sent' one two = absurd one
-then_exchanged (Some a) (Some b) (Some c) ports given sent given' sent' one two = record {
+told_more a b None ports given sent given' sent' one two = tt
+told_more a None (Some c) ports given sent given' sent' one two = absurd two
+told_more None (Some b) (Some c) ports given sent given' sent' one two = absurd one
+told_more (Some a) (Some b) (Some c) ports given sent given' sent' one two = record {
   asked_to = two.asked_to ∙ append-nil b.ports ∙ one.asked_to;
   gave = one.gave ∙ ap (λ (l : List ℕ). given ++ l) two.gave
       ∙ sym (append_assoc given given' c.left);
   took = two.took ∙ ap (λ (l : List ℕ). l ++ sent') one.took ∙ append_assoc a.taken sent sent';
 }
+
+pub then_exchanged : (a b c : Option LinkTold) (ports given sent given' sent' : List ℕ) →
+    HasPassed a b ports given sent → HasPassed b c [] given' sent' →
+    HasPassed a c ports (given ++ given') (sent ++ sent')
+then_exchanged a b c ports given sent given' sent' one two = (
+  told_more a b c ports given sent given' sent' one.0 two.0,
+  more_bytes given given' one.1 two.1,
+)
 
 -- ---- bytes that are sent
 
@@ -46,12 +74,21 @@ pub none_sent : (bytes : List ℕ) (told : Option LinkTold) →
 none_sent bytes told =
     record { sent = []; exchanged = no_exchange told; came = (bytes, refl) }
 
+-- all were
+pub all_sent_told : (bytes : List ℕ) (told told' : Option LinkTold) →
+    Exchanges told told' [] [] bytes → HasSent bytes told told' (Ok tt)
+all_sent_told bytes told told' exchanged = record {
+  sent = bytes;
+  exchanged = none_given told told' [] bytes exchanged;
+  came = refl;
+}
+
 -- some first part was
 pub part_sent : (bytes : List ℕ) (n : ℕ) (told told' : Option LinkTold) →
     Exchanges told told' [] [] (take n bytes) → HasSent bytes told told' (Err faults.Link)
 part_sent bytes n told told' exchanged = record {
   sent = take n bytes;
-  exchanged = exchanged;
+  exchanged = none_given told told' [] (take n bytes) exchanged;
   came = (drop n bytes, sym (take-append-drop n bytes));
 }
 

@@ -7,8 +7,9 @@ use Rattle.mc_hello.specs.LoginDown as login_down
 use Rattle.mc_frame.specs.declared.fault.FrameFault.{FrameFault}
 use Rattle.mc_frame.specs.Cut.{Cut, IsCut, IsCutAt}
 use Rattle.mc_frame.proofs.AnyPieces.{behind}
+use Rattle.mc_frame.proofs.Cuts.{cut_exists}
 use Rattle.mc_wire.specs.LinkStage.{LinkStage}
-use Rattle.mc_wire.specs.LinkTold.{LinkTold, Exchanges}
+use Rattle.mc_wire.specs.LinkTold.{LinkTold}
 use Rattle.mc_wire.specs.Stream.{Grows}
 use Rattle.mc_words.specs.Passes.{SendsPart}
 use Rattle.mc_replica.specs.declared.dump_fault.DumpFault.{DumpFault}
@@ -16,6 +17,7 @@ use Rattle.mc_replica.specs.declared.dump_fault.DumpFault.TheVariants as dumps
 use Rattle.mc_bot.specs.declared.act.Line.{Line}
 use Rattle.mc_bot.specs.declared.bot_fault.BotFault.{BotFault}
 use Rattle.mc_bot.specs.declared.bot_fault.BotFault.TheVariants as faults
+use Rattle.mc_bot.specs.Arriving.{HasPassed}
 use Rattle.mc_bot.specs.BotFaults.{fault_of_dump}
 use Rattle.mc_bot.specs.Played.{IsBegun, FailsAs, RunsAs, HasRun, HasPlayedScript, EndsAs, DumpsAs}
 use Rattle.mc_bot.specs.Played.{PlayStart, PlayLeft}
@@ -46,7 +48,7 @@ played_keeps {S} start cut stage =
 -- where some first part of what is sent first was sent, or nothing, and the play failed
 pub run_begun : {S : Type 0} (start : PlayStart S) (left_ : PlayLeft S) (fault : BotFault)
     (sent : List ℕ) → (fault ≡ faults.Link) ⊎ (fault ≡ faults.NoMemory) →
-    Exchanges start.told left_.told (start.port ∷ []) [] sent →
+    HasPassed start.told left_.told (start.port ∷ []) [] sent →
     IsBegun sent (hello start.script.name start.port) → HasRun start left_ (Err fault)
 run_begun {S} start left_ fault sent is exchanged begun = record {
   given = [];
@@ -87,7 +89,7 @@ cut_behind given frames left_ cut read is =
 
 pub run_steps : {S : Type 0} (start : PlayStart S) (left_ : PlayLeft S) (told : Option LinkTold)
     (keeping : Keeping) (result : Result (Unit {0}) BotFault) →
-    Exchanges start.told told (start.port ∷ []) [] (hello start.script.name start.port) →
+    HasPassed start.told told (start.port ∷ []) [] (hello start.script.name start.port) →
     IsStep (logged_lines start.rules start.script.lines) left_off
     (record { seen = start.seen; keeping = not_logged_in start.patience; told = told })
     (record { seen = left_.seen; keeping = keeping; told = left_.told }) left_.stage result →
@@ -138,54 +140,77 @@ run_steps {S} start left_ told keeping (Err fault) first one = record {
 
 -- ---- the dump
 
+-- what the link gave has a cut
+cut_of : {S : Type 0} (start : PlayStart S) (left_ : PlayLeft S)
+    (result : Result (Unit {0}) BotFault) (run : HasRun start left_ result) →
+    (cut : Cut) × IsCut run.given cut
+cut_of start left_ result run =
+    cut_exists (length run.given + 1) 0 run.given (omega arith) run.exchanged.1
+
 pub run_dumped : {S : Type 0} (start : PlayStart S) (left_ : PlayLeft S) (untouched : Type 0) →
     HasRun (record start { held = None }) (record left_ { held = None }) (Ok tt) →
     Grows start.held left_.held (start.rules.dumps left_.seen) →
     HasPlayedScript start left_ untouched (Ok tt)
-run_dumped start left_ untouched run grows = record {
-  given = run.given;
-  sent = run.sent;
-  exchanged = run.exchanged;
-  ended = run.ended;
-  dumped = λ cut is. grows;
-}
+run_dumped start left_ untouched run grows =
+    let c = cut_of (record start { held = None }) (record left_ { held = None }) (Ok tt) run in
+    record {
+      given = run.given;
+      sent = run.sent;
+      exchanged = run.exchanged.0;
+      cut = c.0;
+      is_cut = c.1;
+      ended = run.ended c.0 c.1;
+      dumped = grows;
+    }
 
 pub run_undumped : {S : Type 0} (start : PlayStart S) (left_ : PlayLeft S) (untouched : Type 0)
     (dump : DumpFault) → HasRun (record start { held = None }) (record left_ { held = None }) (Ok tt)
     → SendsPart start.held left_.held (start.rules.dumps left_.seen) →
     HasPlayedScript start left_ untouched (Err (fault_of_dump dump))
-run_undumped start left_ untouched dumps.Write run part = record {
-  given = run.given;
-  sent = run.sent;
-  exchanged = run.exchanged;
-  ended = run.ended;
-  dumped = λ cut is. part;
-}
-run_undumped {S} start left_ untouched dumps.NoMemory run part = record {
-  given = run.given;
-  sent = run.sent;
-  exchanged = run.exchanged;
-  ended = λ cut is.
-      let all : all_sent (played_out start.rules start.seen start.script start.port
-      (ahead_of cut left_.stage.ended)) ≡ run.sent = ap all_sent (run.ended cut is).0 in
-      rw all (begun_all run.sent);
-  dumped = λ cut is. inr ((run.ended cut is).0, part);
-}
+run_undumped start left_ untouched dumps.Write run part =
+    let c = cut_of (record start { held = None }) (record left_ { held = None }) (Ok tt) run in
+    record {
+      given = run.given;
+      sent = run.sent;
+      exchanged = run.exchanged.0;
+      cut = c.0;
+      is_cut = c.1;
+      ended = run.ended c.0 c.1;
+      dumped = part;
+    }
+run_undumped {S} start left_ untouched dumps.NoMemory run part =
+    let c = cut_of (record start { held = None }) (record left_ { held = None }) (Ok tt) run in
+    let end_ = (run.ended c.0 c.1).0 in
+    let all : all_sent (played_out start.rules start.seen start.script start.port
+    (ahead_of c.0 left_.stage.ended)) ≡ run.sent = ap all_sent end_ in
+    record {
+      given = run.given;
+      sent = run.sent;
+      exchanged = run.exchanged.0;
+      cut = c.0;
+      is_cut = c.1;
+      ended = rw all (begun_all run.sent);
+      dumped = inr (end_, part);
+    }
 
 -- the play failed, and the sink was not touched
 pub run_failed : {S : Type 0} (start : PlayStart S) (left_ : PlayLeft S) (untouched : Type 0)
     (fault : BotFault) → untouched →
     HasRun (record start { held = None }) (record left_ { held = None }) (Err fault) →
     HasPlayedScript start left_ untouched (Err fault)
-run_failed {S} start left_ untouched fault same run = record {
-  given = run.given;
-  sent = run.sent;
-  exchanged = run.exchanged;
-  ended = λ cut is. ends_as (played_out start.rules start.seen start.script start.port
-      (ahead_of cut left_.stage.ended)) fault (run.ended cut is);
-  dumped = λ cut is. dumps_as (played_out start.rules start.seen start.script start.port
-      (ahead_of cut left_.stage.ended)) fault (run.ended cut is);
-}
+run_failed {S} start left_ untouched fault same run =
+    let c = cut_of (record start { held = None }) (record left_ { held = None }) (Err fault) run in
+    let course : Course S = played_out start.rules start.seen start.script start.port
+    (ahead_of c.0 left_.stage.ended) in
+    record {
+      given = run.given;
+      sent = run.sent;
+      exchanged = run.exchanged.0;
+      cut = c.0;
+      is_cut = c.1;
+      ended = ends_as course fault (run.ended c.0 c.1);
+      dumped = dumps_as course fault (run.ended c.0 c.1);
+    }
   where
     ends_as : (course : Course S) (fault : BotFault) →
         FailsAs course run.sent start.patience left_.stage.quiet_run fault →
@@ -201,3 +226,18 @@ run_failed {S} start left_ untouched fault same run = record {
     dumps_as course faults.Write fails = absurd fails
     dumps_as course faults.NoMemory fails = inl same
     dumps_as course other fails = same
+
+-- before the dump nothing is written that could fail
+pub never_written : {S : Type 0} (start : PlayStart S) (left_ : PlayLeft S) (fault : BotFault) →
+    HasRun start left_ (Err fault) →
+    ◌≡◌ {A = Result (Unit {0}) BotFault} (Err fault) (Err faults.Write) → ⊥
+never_written {S} start left_ fault run is =
+    let c = cut_of start left_ (Err fault) run in
+    step (played_out start.rules start.seen start.script start.port
+    (ahead_of c.0 left_.stage.ended)) fault (run.ended c.0 c.1) is
+  where
+    step : (course : Course S) (fault : BotFault) →
+        FailsAs course run.sent start.patience left_.stage.quiet_run fault →
+        ◌≡◌ {A = Result (Unit {0}) BotFault} (Err fault) (Err faults.Write) → ⊥
+    step course faults.Write fails is = fails
+    step course other fails is = absurd cc

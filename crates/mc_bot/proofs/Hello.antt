@@ -12,21 +12,14 @@ use Rattle.mc_hello.specs.declared.login_up.LoginUp.TheVariants.{Start}
 use Rattle.mc_hello.specs.Hand as hand
 use Rattle.mc_hello.specs.LoginUp as login_up
 use Rattle.mc_model.proofs.FitsSize.{fields}
-use Rattle.mc_model.proofs.FitsText.{short_string, short_where}
+use Rattle.mc_model.proofs.FitsText.{short_fits, short_less, short_where}
 
 handshake_fits : (port : ℕ) → port < 2 ^ 16 →
     hand.FitsHand (Handshake (pos 47) (codes "localhost") port (pos 2))
 handshake_fits port range =
-    let address : SpellableText 32767 (codes "localhost") = short_string 9 (codes "localhost")
-    (lit≤ tt) (short_where 9 (codes "localhost") refl) in
-    let within : SpellableText 255 (codes "localhost") = record {
-      fits = record {
-        utf8 = address.fits.utf8;
-        few_bytes = lit≤ tt;
-        few_points = lit≤ tt;
-      };
-      sized = address.sized;
-    } in
+    let address : SpellableText 255 (codes "localhost") = short_fits 255 (codes "localhost")
+    (lit< tt) (short_less 9 255 (codes "localhost") (lit≤ tt)
+    (short_where 9 (codes "localhost") refl)) in
     search fields
 
 pub handshake_spelled : (port : ℕ) → port < 2 ^ 16 → (bytes : List ℕ) ×

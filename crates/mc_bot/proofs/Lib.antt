@@ -5,6 +5,7 @@ mod Growing
 mod Coming
 mod Taking
 mod Lines
+mod Loops
 mod Hello
 mod Finishing
 mod Ranges

@@ -1,9 +1,8 @@
 -- What a line comes to, and lines behind one another.
-use Rattle.std.proofs.Common.{◌≡◌, ℕ, zero, suc, ◌+◌, ◌-◌, ◌<◌, ◌≤◌, Bool, true, false, List, [], ◌∷◌}
-use Rattle.std.proofs.Common.{◌++◌, length, drop, get_or, Option, Some, None, Result, Ok, Err, refl}
+use Rattle.std.proofs.Common.{◌≡◌, ℕ, zero, suc, ◌+◌, ◌-◌, ◌<◌, Bool, true, false, List, [], ◌∷◌}
+use Rattle.std.proofs.Common.{◌++◌, Option, Some, None, Result, Ok, Err, refl}
 use Rattle.std.proofs.Common.{sym, subst, ap, ◌∙◌, arith, append_assoc}
-use Rattle.std.specs.Prelude.{if◌then◌else◌}
-use Rattle.std.proofs.lemmas.List.{append-nil, drop_all, drop_more}
+use Rattle.std.proofs.lemmas.List.{append-nil}
 use lib.IntN.{ℤ}
 use Rattle.mc_fields.specs.declared.packet.PacketFault.{PacketFault}
 use Rattle.mc_fields.specs.declared.position.Cell.{Cell}
@@ -11,10 +10,8 @@ use Rattle.mc_fields.specs.Row.{packet_read, packet_of}
 use Rattle.mc_frame.specs.declared.fault.FrameFault.{FrameFault}
 use Rattle.mc_packets.specs.declared.down.Down.{Down}
 use Rattle.mc_packets.specs.Down as play
-use Rattle.mc_wire.specs.Count.{StandsOrRises}
-use Rattle.mc_wire.proofs.Counts.{StandsOrRises-refl, StandsOrRises-trans}
 use Rattle.mc_wire.specs.LinkStage.{LinkStage}
-use Rattle.mc_wire.specs.LinkTold.{LinkTold, Exchanges}
+use Rattle.mc_wire.specs.LinkTold.{LinkTold}
 use Rattle.mc_bot.specs.declared.act.Act.{Act}
 use Rattle.mc_bot.specs.declared.act.Act.TheVariants as acts
 use Rattle.mc_bot.specs.declared.act.Line.{Line}
@@ -22,13 +19,14 @@ use Rattle.mc_bot.specs.declared.bot_fault.BotFault.{BotFault}
 use Rattle.mc_bot.specs.declared.bot_fault.BotFault.TheVariants as faults
 use Rattle.mc_bot.specs.Asked.{Asked, ask_all, packets_of}
 use Rattle.mc_bot.specs.Played.{IsBegun, FailsAs, HasSent, SentAs}
+use Rattle.mc_bot.specs.Arriving.{HasPassed}
 use Rattle.mc_bot.specs.Playing.{SeerRules, Bot, Course, goes, ends, then_play, with_frame}
 use Rattle.mc_bot.specs.Playing.{packet_taken, packets_taken, taken_by, taken_if, taken_until}
 use Rattle.mc_bot.specs.Playing.{farewell, is_state, compared, number_past, with_asked, acted}
 use Rattle.mc_bot.specs.Playing.{is_leaving, line_played, lines_played, all_sent}
 use Rattle.mc_bot.specs.Steps.{Keeping, Standing, HasCome, HasFailed, CanGoOn, ComparedAs, bot_at}
 use Rattle.mc_bot.specs.Steps.{IsStep, left_off}
-use Rattle.mc_bot.proofs.Coming.{no_exchange, no_frames, come_none, come_more, come_fail}
+use Rattle.mc_bot.proofs.Coming.{no_exchange, no_frames}
 use Rattle.mc_bot.proofs.Coming.{then_come, then_fail, fails_then}
 use Rattle.mc_bot.proofs.Growing.{packets_keep, until_keeps, lines_keep, begun_more}
 
@@ -237,7 +235,7 @@ pub acted_comes : {S : Type 0} (rules : SeerRules S) (act : Act) (a : Standing S
     ◌≡◌ {A = Asked S} (record { seen = seen; bytes = bytes })
     (ask_all rules.asks rules.sends (record { seen = a.seen; bytes = [] })
     (packets_of (rules.slot_at a.seen) (rules.window_at a.seen) a.keeping.number act)) →
-    Exchanges a.told told [] [] bytes →
+    HasPassed a.told told [] [] bytes →
     HasCome (acting rules act) goes a (record {
       seen = seen;
       keeping = record a.keeping { number = number_past act a.keeping.number };
@@ -312,7 +310,7 @@ pub act_comes : {S : Type 0} (rules : SeerRules S) (act : Act) (a : Standing S) 
       told = told;
     })
 act_comes {S} rules act a seen bytes told asked sent =
-    let P : List ℕ → Type 0 = λ l. Exchanges a.told told [] [] l in
+    let P : List ℕ → Type 0 = λ l. HasPassed a.told told [] [] l in
     acted_comes rules act a seen bytes told asked (subst P sent.came sent.exchanged)
 
 -- the number of a click is nothing to the link
@@ -428,147 +426,3 @@ pub no_line : {S : Type 0} (rules : SeerRules S) (left_ : List Line) (a : Standi
     left_ ≡ [] → HasCome (lines_played rules left_) left_off a a
 unfolding lines_played
 no_line rules left_ a is = come_same (lines_played rules left_) left_off a (λ bot. rw is refl)
-
--- ---- a loop
-
--- some steps of a loop, after which the play goes on as the rest
-pub record Underway {S : Type 0} (play rest : Bot S → Course S) (a b : Standing S)
-    (stage : LinkStage) (faults_ faults' : ℕ) : Type 0 where
-  pub come : HasCome play rest a b
-  pub goes_on : CanGoOn b.keeping stage
-  pub counts : StandsOrRises faults_ faults'
-
-pub underway_none : {S : Type 0} (play : Bot S → Course S) (a : Standing S) (stage : LinkStage)
-    (faults_ : ℕ) → CanGoOn a.keeping stage → Underway play play a a stage faults_ faults_
-underway_none play a stage faults_ goes_on = record {
-  come = come_none play a;
-  goes_on = goes_on;
-  counts = StandsOrRises-refl faults_;
-}
-
-pub underway_more : {S : Type 0} (play rest last : Bot S → Course S) (a b c : Standing S)
-    (stage stage' : LinkStage) (f f1 f2 : ℕ) → Underway play rest a b stage f f1 →
-    HasCome rest last b c → CanGoOn c.keeping stage' → StandsOrRises f1 f2 →
-    Underway play last a c stage' f f2
-underway_more play rest last a b c stage stage' f f1 f2 so_far come goes_on counts = record {
-  come = come_more play rest last a b c so_far.come come;
-  goes_on = goes_on;
-  counts = StandsOrRises-trans f f1 f2 so_far.counts counts;
-}
-
--- ---- loops that take so many packets
-
-pub many_more : {S : Type 0} (rules : SeerRules S) (count left_ : ℕ) (a b c : Standing S)
-    (stage stage' : LinkStage) (f f1 f2 : ℕ) →
-    Underway (packets_taken rules count) (packets_taken rules left_) a b stage f f1 → 0 < left_ →
-    HasCome (packet_taken rules) goes b c → CanGoOn c.keeping stage' → StandsOrRises f1 f2 →
-    Underway (packets_taken rules count) (packets_taken rules (left_ - 1)) a c stage' f f2
-many_more rules count left_ a b c stage stage' f f1 f2 so_far some one goes_on counts =
-    underway_more (packets_taken rules count) (packets_taken rules left_)
-    (packets_taken rules (left_ - 1)) a b c stage stage' f f1 f2 so_far
-    (one_fewer rules left_ b c some one) goes_on counts
-
-pub many_fails : {S : Type 0} (rules : SeerRules S) (count left_ : ℕ) (a b : Standing S)
-    (told : Option LinkTold) (stage stage' : LinkStage) (f f1 : ℕ) (fault : BotFault) →
-    Underway (packets_taken rules count) (packets_taken rules left_) a b stage f f1 → 0 < left_ →
-    HasFailed (packet_taken rules) b told stage' fault →
-    HasFailed (packets_taken rules count) a told stage' fault
-many_fails rules count left_ a b told stage stage' f f1 fault so_far some one =
-    come_fail (packets_taken rules count) (packets_taken rules left_) a b told stage' fault
-    so_far.come (one_fails rules left_ b told stage' fault some one)
-
-pub many_done : {S : Type 0} (rules : SeerRules S) (count left_ : ℕ) (a b : Standing S)
-    (stage : LinkStage) (f f1 : ℕ) →
-    Underway (packets_taken rules count) (packets_taken rules left_) a b stage f f1 →
-    left_ ≤ 0 → HasCome (packets_taken rules count) goes a b × CanGoOn b.keeping stage
-many_done rules count left_ a b stage f f1 so_far none = (
-  none_more rules (packets_taken rules count) left_ a b (omega (arith, none)) so_far.come,
-  so_far.goes_on,
-)
-
--- ---- loops that take packets until a cell has a state
-
-pub until_more : {S : Type 0} (rules : SeerRules S) (cell : Cell) (state : ℕ)
-    (a b c : Standing S) (stage stage' : LinkStage) (f f1 f2 : ℕ) →
-    Underway (until rules cell state) (until rules cell state) a b stage f f1 →
-    is_state (rules.block_at b.seen cell) state ≡ false →
-    HasCome (packet_taken rules) goes b c → CanGoOn c.keeping stage' → StandsOrRises f1 f2 →
-    Underway (until rules cell state) (until rules cell state) a c stage' f f2
-until_more rules cell state a b c stage stage' f f1 f2 so_far other one goes_on counts =
-    underway_more (until rules cell state) (until rules cell state) (until rules cell state) a b c
-    stage stage' f f1 f2 so_far (until_comes rules cell state b c other one) goes_on counts
-
-pub until_stops : {S : Type 0} (rules : SeerRules S) (cell : Cell) (state : ℕ) (a b : Standing S)
-    (told : Option LinkTold) (stage stage' : LinkStage) (f f1 : ℕ) (fault : BotFault) →
-    Underway (until rules cell state) (until rules cell state) a b stage f f1 →
-    is_state (rules.block_at b.seen cell) state ≡ false →
-    HasFailed (packet_taken rules) b told stage' fault →
-    HasFailed (until rules cell state) a told stage' fault
-until_stops rules cell state a b told stage stage' f f1 fault so_far other one =
-    come_fail (until rules cell state) (until rules cell state) a b told stage' fault so_far.come
-    (until_fails rules cell state b told stage' fault other one)
-
-pub until_ends : {S : Type 0} (rules : SeerRules S) (cell : Cell) (state : ℕ) (a b : Standing S)
-    (stage : LinkStage) (f f1 : ℕ) →
-    Underway (until rules cell state) (until rules cell state) a b stage f f1 →
-    is_state (rules.block_at b.seen cell) state ≡ true →
-    HasCome (until rules cell state) goes a b × CanGoOn b.keeping stage
-until_ends rules cell state a b stage f f1 so_far is = (
-  come_more (until rules cell state) (until rules cell state) goes a b b so_far.come
-      (until_done rules cell state b is),
-  so_far.goes_on,
-)
-
--- ---- the loop over lines
-
-next_line : (lines : List Line) (i : ℕ) (line : Line) → i < length lines →
-    line ≡ get_or lines i line → drop i lines ≡ line ∷ drop (i + 1) lines
-next_line lines i line within is = drop_more lines i line within
-    ∙ ap (λ (x : Line). x ∷ drop (i + 1) lines) (sym is)
-
-pub lines_more : {S : Type 0} (rules : SeerRules S) (lines : List Line) (i : ℕ) (line : Line)
-    (a b c : Standing S) (stage stage' : LinkStage) (f f1 f2 : ℕ) →
-    Underway (lines_played rules lines) (lines_played rules (drop i lines)) a b stage f f1 →
-    i < length lines → line ≡ get_or lines i line →
-    HasCome (line_played rules line.number line.act) goes b c → CanGoOn c.keeping stage' →
-    StandsOrRises f1 f2 →
-    Underway (lines_played rules lines) (lines_played rules (drop (i + 1) lines)) a c stage' f f2
-lines_more rules lines i line a b c stage stage' f f1 f2 so_far within is one goes_on counts =
-    underway_more (lines_played rules lines) (lines_played rules (drop i lines))
-    (lines_played rules (drop (i + 1) lines)) a b c stage stage' f f1 f2 so_far
-    (line_comes rules line (drop (i + 1) lines) (drop i lines) b c
-    (next_line lines i line within is) one) goes_on counts
-
-pub lines_stop : {S : Type 0} (rules : SeerRules S) (lines : List Line) (i : ℕ) (line : Line)
-    (a b : Standing S) (told : Option LinkTold) (stage stage' : LinkStage) (f f1 : ℕ)
-    (fault : BotFault) →
-    Underway (lines_played rules lines) (lines_played rules (drop i lines)) a b stage f f1 →
-    i < length lines → line ≡ get_or lines i line →
-    HasFailed (line_played rules line.number line.act) b told stage' fault →
-    HasFailed (lines_played rules lines) a told stage' fault
-lines_stop rules lines i line a b told stage stage' f f1 fault so_far within is one =
-    come_fail (lines_played rules lines) (lines_played rules (drop i lines)) a b told stage' fault
-    so_far.come (line_fails rules line (drop (i + 1) lines) (drop i lines) b told stage' fault
-    (next_line lines i line within is) one)
-
-pub lines_leave : {S : Type 0} (rules : SeerRules S) (lines : List Line) (i : ℕ) (line : Line)
-    (a b : Standing S) (stage : LinkStage) (f f1 : ℕ) →
-    Underway (lines_played rules lines) (lines_played rules (drop i lines)) a b stage f f1 →
-    i < length lines → line ≡ get_or lines i line → is_leaving line.act ≡ true →
-    HasCome (lines_played rules lines) left_off a b × CanGoOn b.keeping stage
-lines_leave rules lines i line a b stage f f1 so_far within is leaves = (
-  come_more (lines_played rules lines) (lines_played rules (drop i lines)) left_off a b b
-      so_far.come (line_leaves rules line (drop (i + 1) lines) (drop i lines) b
-      (next_line lines i line within is) leaves),
-  so_far.goes_on,
-)
-
-pub lines_end : {S : Type 0} (rules : SeerRules S) (lines : List Line) (i : ℕ) (a b : Standing S)
-    (stage : LinkStage) (f f1 : ℕ) →
-    Underway (lines_played rules lines) (lines_played rules (drop i lines)) a b stage f f1 →
-    length lines ≤ i → HasCome (lines_played rules lines) left_off a b × CanGoOn b.keeping stage
-lines_end rules lines i a b stage f f1 so_far past = (
-  come_more (lines_played rules lines) (lines_played rules (drop i lines)) left_off a b b
-      so_far.come (no_line rules (drop i lines) b (drop_all i lines past)),
-  so_far.goes_on,
-)

@@ -1,6 +1,6 @@
 -- What is read of a script is in the range of its packets.
-use Rattle.std.proofs.Common.{◌≡◌, ℕ, zero, suc, ◌+◌, ◌<◌, ◌≤◌, ◌^◌, ◌&&◌, nat_le, Bool, true, false, List}
-use Rattle.std.proofs.Common.{[], ◌∷◌, ◌++◌, length, Option, Some, None, Result, Ok, Err, refl, sym}
+use Rattle.std.proofs.Common.{◌≡◌, ℕ, zero, suc, ◌+◌, ◌*◌, ◌<◌, ◌≤◌, ◌^◌, ◌&&◌, nat_le, Bool}
+use Rattle.std.proofs.Common.{true, false, List, [], ◌∷◌, ◌++◌, length, Option, Some, None, Result, Ok, Err, refl, sym}
 use Rattle.std.proofs.Common.{subst, ap, ◌∙◌, arith}
 use Rattle.std.specs.Prelude.{◌==◌, if◌then◌else◌, codes, nat_lt}
 use Rattle.std.specs.List.{All}
@@ -8,8 +8,11 @@ use Rattle.std.specs.Option.{option_map}
 use Rattle.std.specs.Str.{bytes_eq, is_utf8, chars, IsUtf8}
 use Rattle.std.proofs.lemmas.Bool.Decides.{nat_tests}
 use Rattle.std.proofs.lemmas.List.Elements.{All-append}
-use Rattle.std.proofs.lemmas.Str.{IsUtf8-from_is_utf8, encodes-chars, length-le-encodes}
+use Rattle.std.proofs.lemmas.List.{length-append}
+use Rattle.std.proofs.lemmas.Str.{IsUtf8-from_is_utf8, encodes-chars, len_utf8_bounds}
+use Rattle.std.proofs.lemmas.Str.{length-encode}
 use lib.IntN.{ℤ, pos, neg_ℤ}
+use lib.Utf8.{encode, encodes}
 use Rattle.mc_fields.specs.declared.position.Cell.{Cell}
 use Rattle.mc_fields.specs.Position.{FitsCell, FitsHalf}
 use Rattle.mc_fields.specs.Text.{FitsText}
@@ -23,6 +26,7 @@ use Rattle.mc_bot.specs.declared.act.Said.{Said}
 use Rattle.mc_bot.specs.declared.act.Said.TheVariants.{Join, Does}
 use Rattle.mc_bot.specs.declared.script.ScriptFault.{ScriptFault}
 use Rattle.mc_bot.specs.declared.script.ScriptKind.{ScriptKind}
+use Rattle.mc_bot.specs.declared.script.ScriptKind.TheVariants.{Long, Word}
 use Rattle.mc_bot.specs.Asked.{IsInRange}
 use Rattle.mc_bot.specs.Script.{Begun, said_next, said_after, line_after, then_lines, lines_after}
 use Rattle.mc_bot.specs.Script.{not_begun}
@@ -97,11 +101,17 @@ cell_fits x y z cell is = step (whole_of 33554432 33554431 x) (whole_of 2048 204
 
 -- ---- texts
 
+few_encoded : (cs : List ℕ) → length (encodes cs) ≤ 4 * length cs
+few_encoded [] = omega arith
+few_encoded (c ∷ cs) = omega (arith, few_encoded cs, length-append (encode c) (encodes cs),
+    length-encode c, (len_utf8_bounds c).1)
+
 utf8_fits : (most : ℕ) (text : List ℕ) → IsUtf8 text → length (chars text) ≤ most →
     FitsText most text
 utf8_fits most text utf8 few = record {
   utf8 = utf8;
-  few_bytes = grind (arith, nat_tests, encodes-chars, length-le-encodes);
+  few_bytes = (let all : length (encodes (chars text)) ≡ length text =
+      ap length (encodes-chars text utf8) in omega (arith, few, all, few_encoded (chars text)));
   few_points = few;
 }
 
@@ -112,7 +122,7 @@ text_fits most bytes text is = step (is_utf8 bytes) (nat_lt 0 (length (chars byt
     step : (utf8 some few : Bool) → is_utf8 bytes ≡ utf8 →
         nat_le (length (chars bytes)) most ≡ few →
         ◌≡◌ {A = Result (List ℕ) ScriptKind}
-        (if utf8 && (some && few) then Ok bytes else Err _) (Ok text) → FitsText most text
+        (if utf8 && (some && few) then Ok bytes else Err Word) (Ok text) → FitsText most text
     step true true true utf8 few is =
         let same : bytes ≡ text = cc in
         subst (FitsText most) same (utf8_fits most bytes (IsUtf8-from_is_utf8 bytes utf8)
@@ -238,6 +248,10 @@ pub record BegunFits (begun : Begun) : Type 0 where
   pub name_fits : NameFits begun.name
   pub lines_fit : LinesFit begun.lines
 
+one_all : (P : Line → Type 0) (line : Line) → P line → All P (line ∷ [])
+one_all P line fits zero d less = fits
+one_all P line fits (suc k) d less = absurd (omega (arith, less))
+
 said_fits : (n : ℕ) (name : Option (List ℕ)) (lines : List Line) (said : Said) (next : Begun) →
     NameFits name → LinesFit lines → SaidFits said → said_next n name lines said ≡ Ok next →
     BegunFits next
@@ -252,7 +266,8 @@ said_fits n (Some name) lines (Does act) next named fits said is =
     subst BegunFits same (record {
       name_fits = named;
       lines_fit = All-append (λ (line : Line). IsInRange line.act) lines
-          (record { number = n; act = act } ∷ []) fits (said, tt);
+          (record { number = n; act = act } ∷ []) fits
+          (one_all (λ (line : Line). IsInRange line.act) (record { number = n; act = act }) said);
     })
 said_fits n None lines (Does act) next named fits said is = absurd cc
 said_fits n (Some name) lines (Join other) next named fits said is = absurd cc
@@ -273,7 +288,7 @@ next_fits n len size begun line next fits is = past (goes_past len size) is
     skipped true is = let same : begun ≡ next = cc in subst BegunFits same fits
     skipped false is = said (line_said line) refl is
 
-    past : (goes : Bool) → (if goes then Err _ else (if is_skipped line then Ok begun
+    past : (goes : Bool) → (if goes then Err Long else (if is_skipped line then Ok begun
         else said_after n begun (line_said line))) ≡ Ok next → BegunFits next
     past true is = absurd cc
     past false is = skipped (is_skipped line) is
@@ -300,7 +315,7 @@ all_fit len count size begun (line ∷ lines) last fits is =
 
 -- of a script, whose lines are those of a text
 nothing_fits : BegunFits not_begun
-nothing_fits = record { name_fits = tt; lines_fit = tt }
+nothing_fits = record { name_fits = tt; lines_fit = λ k d less. absurd (omega (arith, less)) }
 
 pub name_taken : (len : ℕ) (text : List ℕ) (last : Begun) →
     lines_after len 0 0 not_begun (lines_of text) ≡ Ok last → NameFits last.name

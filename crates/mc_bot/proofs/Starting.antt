@@ -11,14 +11,14 @@ use Rattle.mc_wire.proofs.Counts.{NeverFalls-trans}
 use Rattle.mc_bot.specs.declared.act.Line.{Line}
 use Rattle.mc_bot.specs.declared.bot_fault.BotFault.{BotFault}
 use Rattle.mc_bot.specs.declared.bot_fault.BotFault.TheVariants as faults
-use Rattle.mc_bot.specs.Arriving.{Arriving, GoesWith, HasNext, IsPatient, nothing_came}
+use Rattle.mc_bot.specs.Arriving.{Arriving, GoesWith, HasNext, HasPassed, IsPatient, nothing_came}
 use Rattle.mc_bot.specs.Played.{PlayStart, PlayLeft, HasRun, HasSent, IsBegun, SentAs}
 use Rattle.mc_bot.specs.Playing.{SeerRules, Bot, Course, logged_by, logged_in, then_play, hello}
 use Rattle.mc_bot.specs.Playing.{lines_played}
 use Rattle.mc_bot.specs.Steps.{Keeping, Standing, HasFailed, HasTakenFrame, IsStep, LoginAs}
 use Rattle.mc_bot.specs.Steps.{left_off, not_logged_in}
-use Rattle.mc_bot.proofs.Coming.{no_exchange, then_exchanged, come_more, come_fail, then_come}
-use Rattle.mc_bot.proofs.Coming.{then_fail}
+use Rattle.mc_bot.proofs.Coming.{no_exchange, none_given, then_exchanged, come_more, come_fail}
+use Rattle.mc_bot.proofs.Coming.{then_come, then_fail}
 use Rattle.mc_bot.proofs.Finishing.{run_begun, run_steps, logged_lines}
 use Rattle.mc_bot.proofs.Growing.{begun_all, logged_keeps, lines_keep}
 use Rattle.mc_bot.proofs.Taking.{next_fails, frame_comes, frame_fails, login_as}
@@ -107,7 +107,8 @@ begin_patient patience = inr nothing_part
 
 pub connect_fails : {S : Type 0} (start : PlayStart S) (left_ : PlayLeft S) →
     Exchanges start.told left_.told (start.port ∷ []) [] [] → HasRun start left_ (Err faults.Link)
-connect_fails start left_ exchanged = run_begun start left_ faults.Link [] (inl refl) exchanged
+connect_fails start left_ exchanged = run_begun start left_ faults.Link [] (inl refl)
+    (none_given start.told left_.told (start.port ∷ []) [] exchanged)
     (hello start.script.name start.port, refl)
 
 pub hello_fails : {S : Type 0} (start : PlayStart S) (left_ : PlayLeft S) (told : Option LinkTold)
@@ -116,9 +117,9 @@ pub hello_fails : {S : Type 0} (start : PlayStart S) (left_ : PlayLeft S) (told 
     HasRun start left_ (Err fault)
 hello_fails start left_ told fault exchanged sent = each fault sent.came
   where
-    both : Exchanges start.told left_.told (start.port ∷ []) [] sent.sent
-    both = then_exchanged start.told told left_.told (start.port ∷ []) [] [] [] sent.sent exchanged
-        sent.exchanged
+    both : HasPassed start.told left_.told (start.port ∷ []) [] sent.sent
+    both = then_exchanged start.told told left_.told (start.port ∷ []) [] [] [] sent.sent
+        (none_given start.told told (start.port ∷ []) [] exchanged) sent.exchanged
 
     each : (fault : BotFault) →
         SentAs (hello start.script.name start.port) sent.sent (Err fault) →
@@ -130,11 +131,11 @@ hello_fails start left_ told fault exchanged sent = each fault sent.came
 whole_hello : {S : Type 0} (start : PlayStart S) (told told1 : Option LinkTold) →
     Exchanges start.told told (start.port ∷ []) [] [] →
     HasSent (hello start.script.name start.port) told told1 (Ok tt) →
-    Exchanges start.told told1 (start.port ∷ []) [] (hello start.script.name start.port)
+    HasPassed start.told told1 (start.port ∷ []) [] (hello start.script.name start.port)
 whole_hello start told told1 exchanged sent =
-    let P : List ℕ → Type 0 = λ l. Exchanges start.told told1 (start.port ∷ []) [] l in
+    let P : List ℕ → Type 0 = λ l. HasPassed start.told told1 (start.port ∷ []) [] l in
     subst P sent.came (then_exchanged start.told told told1 (start.port ∷ []) [] [] [] sent.sent
-    exchanged sent.exchanged)
+    (none_given start.told told (start.port ∷ []) [] exchanged) sent.exchanged)
 
 pub new_fails : {S : Type 0} (start : PlayStart S) (left_ : PlayLeft S) (told : Option LinkTold) →
     Exchanges start.told told (start.port ∷ []) [] [] →

@@ -1,5 +1,6 @@
 -- What one frame comes to in a play.
-use Rattle.std.proofs.Common.{◌≡◌, ℕ, ◌+◌, ◌<◌, ◌⊎◌, inl, inr, true, false, List, [], ◌∷◌, ◌++◌, length, Option, Some}
+use Rattle.std.proofs.Common.{◌≡◌, ℕ, ◌+◌, ◌<◌, ◌⊎◌, inl, inr, true, false, List, [], ◌∷◌, ◌++◌}
+use Rattle.std.proofs.Common.{length, Option, Some}
 use Rattle.std.proofs.Common.{None, Result, Ok, Err, refl, sym, subst, ap, ◌∙◌, arith, append_assoc}
 use Rattle.std.specs.Option.{option_copied}
 use Rattle.std.proofs.lemmas.List.{append-nil}
@@ -15,14 +16,15 @@ use Rattle.mc_packets.specs.declared.down.Down.{Down}
 use Rattle.mc_packets.specs.Down as play
 use Rattle.mc_wire.specs.Count.{raised}
 use Rattle.mc_wire.specs.LinkStage.{LinkStage}
-use Rattle.mc_wire.specs.LinkTold.{LinkTold, Exchanges}
+use Rattle.mc_wire.specs.LinkTold.{LinkTold}
 use Rattle.mc_bot.specs.declared.bot_fault.BotFault.{BotFault}
 use Rattle.mc_bot.specs.declared.bot_fault.BotFault.TheVariants as faults
 use Rattle.mc_bot.specs.Arriving.{Arriving, HasNext, NextAs}
 use Rattle.mc_bot.specs.Asked.{bytes_of, reply_to}
 use Rattle.mc_bot.specs.Played.{IsBegun, FailsAs, HasSent}
 use lib.IntN.{ℤ}
-use Rattle.mc_bot.specs.Playing.{Ahead, SeerRules, Bot, Course, goes, with_frame, logged_by, farewell}
+use Rattle.mc_bot.specs.Playing.{Ahead, SeerRules, Bot, Course, goes, with_frame, logged_by}
+use Rattle.mc_bot.specs.Playing.{farewell}
 use Rattle.mc_bot.specs.Playing.{taken_if, taken_by, packet_taken, all_sent, no_packet}
 use Rattle.mc_bot.specs.Steps.{Keeping, Standing, Frames, HasCome, HasFailed, FrameAs}
 use Rattle.mc_bot.specs.Steps.{HasTakenFrame, LoginAs, CanGoOn, PacketAs, TookAs, bot_at}

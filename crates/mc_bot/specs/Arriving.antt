@@ -1,6 +1,7 @@
 -- What comes of a link, as a bot keeps it: what reading once, and taking the next frame, come to.
 use Rattle.std.specs.Prelude.{◌≡◌, ℕ, ◌+◌, ◌-◌, ◌*◌, ◌<◌, ◌≤◌, ◌⊎◌, Bool, true, false, List, [], ◌++◌}
 use Rattle.std.specs.Prelude.{length, Option, None, Some, Result, Ok, Err}
+use Rattle.mc_bytes.specs.Reading.{IsBytes}
 use Rattle.mc_frame.specs.Cut.{IsPart, Ends}
 use Rattle.mc_frame.specs.Held.{Splitting, nothing_held}
 use Rattle.mc_frame.specs.Splitting.{TakesFrame, held_max}
@@ -10,6 +11,10 @@ use Rattle.mc_wire.specs.LinkStage.{LinkStage}
 use Rattle.mc_wire.specs.LinkTold.{LinkTold, Exchanges}
 use Rattle.mc_bot.specs.declared.bot_fault.BotFault.{BotFault}
 use Rattle.mc_bot.specs.declared.bot_fault.BotFault.TheVariants as faults
+
+-- what calls add to what a link tells, which gave only bytes
+abbrev pub HasPassed : Option LinkTold → Option LinkTold → List ℕ → List ℕ → List ℕ → Type 0
+HasPassed old new asked given sent = Exchanges old new asked given sent × IsBytes given
 
 -- the splitter, the run of quiet reads, and how many of them are too many
 pub record Arriving : Type 0 where
@@ -54,7 +59,7 @@ GotAs old new given (Err fault) = (fault ≡ faults.Link) ⊎ (fault ≡ faults.
 pub record HasGot (old new : Splitting) (told told' : Option LinkTold)
     (result : Result Got BotFault) : Type 0 where
   pub given : List ℕ
-  pub exchanged : Exchanges told told' [] given []
+  pub exchanged : HasPassed told told' [] given []
   pub came : GotAs old new given result
 
 -- bytes are an answer less to give, and no answer is one more
@@ -77,7 +82,7 @@ ReadAs old new given stage (Err other) = ⊥
 pub record HasRead (old new : Arriving) (told told' : Option LinkTold) (stage : LinkStage)
     (result : Result (Unit {0}) BotFault) : Type 0 where
   pub given : List ℕ
-  pub exchanged : Exchanges told told' [] given []
+  pub exchanged : HasPassed told told' [] given []
   pub came : ReadAs old new given stage result
 
 -- what taking the next frame came to, for which these bytes were read
@@ -101,5 +106,5 @@ NextAs old new given stage (Err other) = ⊥
 pub record HasNext (old new : Arriving) (told told' : Option LinkTold) (stage : LinkStage)
     (result : Result (List ℕ) BotFault) : Type 0 where
   pub given : List ℕ
-  pub exchanged : Exchanges told told' [] given []
+  pub exchanged : HasPassed told told' [] given []
   pub came : NextAs old new given stage result

@@ -14,6 +14,7 @@ use Rattle.mc_wire.specs.Stream.{Grows}
 use Rattle.mc_words.specs.Passes.{SendsPart}
 use Rattle.mc_bot.specs.declared.bot_fault.BotFault.{BotFault}
 use Rattle.mc_bot.specs.declared.bot_fault.BotFault.TheVariants as faults
+use Rattle.mc_bot.specs.Arriving.{HasPassed}
 use Rattle.mc_bot.specs.Playing.{SeerRules, rules_of, Course, ends, ended_with, refused_for}
 use Rattle.mc_bot.specs.Playing.{waiting, ahead_of, all_sent, played_out}
 use Rattle.mc_bot.specs.Script.{ScriptValue}
@@ -110,7 +111,7 @@ pub record HasRun {S : Type 0} (start : PlayStart S) (left_ : PlayLeft S)
     (result : Result (Unit {0}) BotFault) : Type 0 where
   pub given : List ℕ
   pub sent : List ℕ
-  pub exchanged : Exchanges start.told left_.told (start.port ∷ []) given sent
+  pub exchanged : HasPassed start.told left_.told (start.port ∷ []) given sent
   pub ended : (cut : Cut) → IsCut given cut →
       RunsAs (played_out start.rules start.seen start.script start.port
       (ahead_of cut left_.stage.ended)) sent left_.seen start.patience left_.stage.quiet_run result
@@ -125,5 +126,5 @@ SentAs bytes sent (Err other) = ⊥
 pub record HasSent (bytes : List ℕ) (told told' : Option LinkTold)
     (result : Result (Unit {0}) BotFault) : Type 0 where
   pub sent : List ℕ
-  pub exchanged : Exchanges told told' [] [] sent
+  pub exchanged : HasPassed told told' [] [] sent
   pub came : SentAs bytes sent result

@@ -11,10 +11,10 @@ use Rattle.mc_frame.specs.Cut.{Cut, IsCutAt, SpellsFrames, kept_count}
 use Rattle.mc_packets.specs.declared.down.Down.{Down}
 use Rattle.mc_wire.specs.Count.{raised}
 use Rattle.mc_wire.specs.LinkStage.{LinkStage}
-use Rattle.mc_wire.specs.LinkTold.{LinkTold, Exchanges}
+use Rattle.mc_wire.specs.LinkTold.{LinkTold}
 use Rattle.mc_bot.specs.declared.bot_fault.BotFault.{BotFault}
 use Rattle.mc_bot.specs.declared.bot_fault.BotFault.TheVariants as faults
-use Rattle.mc_bot.specs.Arriving.{Arriving, GoesWith, nothing_came}
+use Rattle.mc_bot.specs.Arriving.{Arriving, GoesWith, HasPassed, nothing_came}
 use Rattle.mc_bot.specs.Playing.{SeerRules, Ahead, Bot, Course, goes, ends, ended_with, is_state}
 use Rattle.mc_bot.specs.Played.{FailsAs}
 
@@ -64,7 +64,7 @@ pub record HasCome {S : Type 0} (play rest : Bot S → Course S) (old new : Stan
   pub given : List ℕ
   pub frames : List (List ℕ)
   pub sent : List ℕ
-  pub exchanged : Exchanges old.told new.told [] given sent
+  pub exchanged : HasPassed old.told new.told [] given sent
   pub cut : Frames old.keeping.incoming.splitting.held given frames
       new.keeping.incoming.splitting.held
   pub before : kept_count new.keeping.incoming.splitting.before ≡
@@ -81,7 +81,7 @@ pub record HasFailed {S : Type 0} (play : Bot S → Course S) (old : Standing S)
   pub frames : List (List ℕ)
   pub sent : List ℕ
   pub left_ : List ℕ
-  pub exchanged : Exchanges old.told told [] given sent
+  pub exchanged : HasPassed old.told told [] given sent
   pub cut : Frames old.keeping.incoming.splitting.held given frames left_
   pub course : (rest : Cut) (first : List ℕ) →
       IsCutAt (old.keeping.incoming.splitting.before + length cut.front) left_ rest →
@@ -120,7 +120,7 @@ FrameAs play seen seen' read sent (Err fault) = (patience run : ℕ) → run < p
 pub record HasTakenFrame {S : Type 0} (play : Bot S → Course S) (seen seen' : S) (read : ℕ)
     (told told' : Option LinkTold) (result : Result (Unit {0}) BotFault) : Type 0 where
   pub sent : List ℕ
-  pub exchanged : Exchanges told told' [] [] sent
+  pub exchanged : HasPassed told told' [] [] sent
   pub came : FrameAs play seen seen' read sent result
 
 -- what the answer to the login came to, behind so many packets

@@ -74,7 +74,7 @@ fn feed_whole(splitter: &mut Splitter, piece: &[u8]) -> Result<(), NoMemory>
 }
 
 /// Reads once into a piece for which a splitter has room, and feeds it.
-#[tactic(auto, using(crate::proofs::Arrivals::told_same, crate::proofs::Arrivals::piece_room))]
+#[tactic(auto, using(crate::proofs::Arrivals::told_same, crate::proofs::Arrivals::told_given, crate::proofs::Arrivals::piece_room))]
 fn read_once<K: Link>(
     link: &mut K,
     splitter: &mut Splitter,

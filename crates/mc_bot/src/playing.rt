@@ -267,7 +267,6 @@ impl Playing {
     }
 
     /// Takes the next packet.
-    #[tactic(auto, using(crate::proofs::Taking::packet_next_fails, crate::proofs::Taking::packet_fails, crate::proofs::Taking::packet_comes, crate::proofs::Taking::next_goes_on))]
     fn take<S: Seer, K: Link>(&mut self, seer: &mut S, link: &mut K) -> Result<(), BotFault>
         requires ready { CanGoOn self.old (K.stage link.old) }
         ensures step { IsStep (packet_taken (rules_of S.refused S.taken S.asked S.sent
@@ -281,7 +280,7 @@ impl Playing {
         ensures fewer { OnOk result
             (to_come (K.answers link.new) self.new.incoming.splitting <
             to_come (K.answers link.old) self.old.incoming.splitting) }
-{
+    {
         let frame = self.incoming.next(link)?;
         take_frame(self.alloc, seer, frame.as_slice(), self.read, link)?;
         self.read = self.read.saturating_add(1);
@@ -289,7 +288,7 @@ impl Playing {
     }
 
     /// Takes so many packets.
-    #[tactic(auto, using(crate::proofs::Lines::underway_none, crate::proofs::Lines::many_more, crate::proofs::Lines::many_fails, crate::proofs::Lines::many_done, crate::proofs::Sends::send_failed, crate::proofs::Sends::counts_on))]
+    #[tactic(auto, using(crate::proofs::Sends::send_failed, crate::proofs::Sends::counts_on))]
     fn take_many<S: Seer, K: Link>(
         &mut self,
         seer: &mut S,
@@ -305,7 +304,7 @@ impl Playing {
         ensures failed { IsErrOf result BotFault.Link →
             Rose (K.counts link.old).faults (K.counts link.new).faults }
         ensures counts { StandsOrRises (K.counts link.old).faults (K.counts link.new).faults }
-{
+    {
         let mut left = count;
         while left > 0 {
             self.take(seer, link)?;
@@ -315,7 +314,7 @@ impl Playing {
     }
 
     /// Takes packets until a cell has a state.
-    #[tactic(auto, using(crate::proofs::Lines::underway_none, crate::proofs::Lines::until_more, crate::proofs::Lines::until_stops, crate::proofs::Lines::until_ends, crate::proofs::Sends::send_failed, crate::proofs::Sends::counts_on))]
+    #[tactic(auto, using(crate::proofs::Sends::send_failed, crate::proofs::Sends::counts_on))]
     fn take_until<S: Seer, K: Link>(
         &mut self,
         seer: &mut S,
@@ -332,7 +331,7 @@ impl Playing {
         ensures failed { IsErrOf result BotFault.Link →
             Rose (K.counts link.old).faults (K.counts link.new).faults }
         ensures counts { StandsOrRises (K.counts link.old).faults (K.counts link.new).faults }
-{
+    {
         while !has_state(seer, cell, state) {
             self.take(seer, link)?;
         }
@@ -340,7 +339,6 @@ impl Playing {
     }
 
     /// Sends what a line asks for.
-    #[tactic(auto, using(crate::proofs::Lines::act_lost, crate::proofs::Lines::act_fails, crate::proofs::Lines::act_comes, crate::proofs::Lines::act_goes_on))]
     fn act<S: Seer, K: Link>(
         &mut self,
         seer: &mut S,
@@ -357,7 +355,7 @@ impl Playing {
         ensures failed { IsErrOf result BotFault.Link →
             Rose (K.counts link.old).faults (K.counts link.new).faults }
         ensures counts { StandsOrRises (K.counts link.old).faults (K.counts link.new).faults }
-{
+    {
         let mut bytes = Vec::new(self.alloc);
         put_act(self.alloc, seer, act, self.number, &mut bytes)?;
         send_bytes(link, bytes.as_slice())?;
@@ -366,7 +364,6 @@ impl Playing {
     }
 
     /// Does a line that does not end the script.
-    #[tactic(auto, using(crate::proofs::Lines::wait_line, crate::proofs::Lines::until_line, crate::proofs::Lines::expect_line, crate::proofs::Lines::other_line))]
     fn play_line<S: Seer, K: Link>(
         &mut self,
         seer: &mut S,
@@ -384,7 +381,7 @@ impl Playing {
         ensures failed { IsErrOf result BotFault.Link →
             Rose (K.counts link.old).faults (K.counts link.new).faults }
         ensures counts { StandsOrRises (K.counts link.old).faults (K.counts link.new).faults }
-{
+    {
         match &line.act {
             Act::Wait(count) => self.take_many(seer, link, *count),
             Act::Until(cell, state) => self.take_until(seer, link, *cell, *state),
@@ -394,7 +391,7 @@ impl Playing {
     }
 
     /// Does the lines of a script, in order.
-    #[tactic(auto, using(crate::proofs::Lines::underway_none, crate::proofs::Lines::lines_more, crate::proofs::Lines::lines_stop, crate::proofs::Lines::lines_leave, crate::proofs::Lines::lines_end, crate::proofs::Sends::send_failed, crate::proofs::Sends::counts_on))]
+    #[tactic(auto, using(crate::proofs::Sends::send_failed, crate::proofs::Sends::counts_on))]
     fn play_lines<S: Seer, K: Link>(
         &mut self,
         seer: &mut S,
@@ -411,7 +408,7 @@ impl Playing {
         ensures failed { IsErrOf result BotFault.Link →
             Rose (K.counts link.old).faults (K.counts link.new).faults }
         ensures counts { StandsOrRises (K.counts link.old).faults (K.counts link.new).faults }
-{
+    {
         for line in lines {
             if is_leaving(&line.act) {
                 return Ok(());
@@ -422,7 +419,6 @@ impl Playing {
     }
 
     /// Takes the answer to the login, and does the lines of a script.
-    #[tactic(auto, using(crate::proofs::Starting::login_next_fails, crate::proofs::Starting::login_fails, crate::proofs::Starting::login_step))]
     pub fn play<S: Seer, K: Link>(
         &mut self,
         seer: &mut S,
@@ -432,15 +428,16 @@ impl Playing {
         requires range { All (λ line. IsInRange line.act) lines.now }
         requires goes { GoesWith self.old.incoming (K.stage link.old) }
         requires patient { IsPatient self.old.incoming }
-        ensures step { IsStep (λ bot. then_play (logged_in bot) (lines_played (rules_of S.refused S.taken S.asked S.sent
-            S.block_at S.slot_at S.window_at S.text) lines.now)) left_off
+        ensures step { IsStep (λ bot. then_play (logged_in bot) (lines_played
+            (rules_of S.refused S.taken S.asked S.sent S.block_at S.slot_at S.window_at S.text)
+            lines.now)) left_off
             (record { seen = seer.old; keeping = self.old; told = K.told link.old })
             (record { seen = seer.new; keeping = self.new; told = K.told link.new })
             (K.stage link.new) result }
         ensures failed { IsErrOf result BotFault.Link →
             Rose (K.counts link.old).faults (K.counts link.new).faults }
         ensures counts { StandsOrRises (K.counts link.old).faults (K.counts link.new).faults }
-{
+    {
         let frame = self.incoming.next(link)?;
         take_login(self.alloc, frame.as_slice(), self.read)?;
         self.read = self.read.saturating_add(1);

@@ -30,7 +30,7 @@ fn send<K: Link>(link: &mut K, piece: &[u8]) -> Result<(), Failed>
 }
 
 /// Writes a whole piece to a link, as a step of a play.
-#[tactic(auto, using(crate::proofs::Coming::part_sent))]
+#[tactic(auto, using(crate::proofs::Coming::part_sent, crate::proofs::Coming::all_sent_told))]
 pub fn send_bytes<K: Link>(link: &mut K, piece: &[u8]) -> Result<(), BotFault>
     requires connected { (K.stage link.old).connected ≡ true }
     ensures sent { HasSent piece.now (K.told link.old) (K.told link.new) result }

@@ -1,4 +1,3 @@
-use Rattle.std.proofs.Common.{refl, rules}
 use Rattle.std.proofs.lemmas.Int.{to_z-of_z}
 use Rattle.std.specs.Int.{w16}
 use mir.Val.{SFits}
@@ -24,7 +23,7 @@ returns-in_err-send_bytes-clause-step g c =
     g.S.Seer.block_at g.S.Seer.slot_at g.S.Seer.window_at g.S.Seer.text in
     let p = err_from_is_err_and c.from_residual-in_err-send_bytes.result
     c.from_residual-in_err-send_bytes.ensures.1 in
-    let fits : SFits w16 c.self.inside.number = search rules in
+    let fits : SFits w16 c.self.inside.number = search in
     let asked = rw (c.new-bytes.ensures.items, to_z-of_z w16 c.self.inside.number fits) at
     c.in_ok-put_act.ensures in
     let sent = rw c.as_slice.ensures.value at c.in_err-send_bytes.ensures.sent in
@@ -44,26 +43,26 @@ pub returns-clause-step : goal.returns-clause-step
 returns-clause-step g c =
     let rules = rules_of g.S.Seer.refused g.S.Seer.taken g.S.Seer.asked g.S.Seer.sent
     g.S.Seer.block_at g.S.Seer.slot_at g.S.Seer.window_at g.S.Seer.text in
-    let fits : SFits w16 c.self.inside.number = search rules in
+    let fits : SFits w16 c.self.inside.number = search in
     let asked = rw (c.new-bytes.ensures.items, to_z-of_z w16 c.self.inside.number fits) at
     c.in_ok-put_act.ensures in
     let sent = rw c.as_slice.ensures.value at c.in_ok-send_bytes.ensures.sent in
     rw (
-      to_z-of_z w16 c.number_past-self-inside.result (search rules),
+      to_z-of_z w16 c.number_past-self-inside.result search,
       c.number_past-self-inside.ensures,
       to_z-of_z w16 c.self.inside.number fits,
       ← c.self.view_is,
     ) (
       act_comes rules c.args.act.now
-    (record {
-      seen = c.args.seer.now;
-      keeping = record {
-        incoming = c.self.inside.incoming;
-        read = c.self.inside.read;
-        number = c.self.inside.number;
-      };
-      told = g.K.Link.told c.args.link.now;
-    }) c.put_act.new.seer c.put_act.new.out.items _ asked sent,
+          (record {
+            seen = c.args.seer.now;
+            keeping = record {
+              incoming = c.self.inside.incoming;
+              read = c.self.inside.read;
+              number = c.self.inside.number;
+            };
+            told = g.K.Link.told c.args.link.now;
+          }) c.put_act.new.seer c.put_act.new.out.items _ asked sent,
       act_goes_on (record {
         incoming = c.self.inside.incoming;
         read = c.self.inside.read;

@@ -1,6 +1,6 @@
 use Rattle.std.proofs.Common.{drop}
 use Rattle.mc_bot.specs.Playing.{lines_played, rules_of}
-use Rattle.mc_bot.proofs.Lines.{Underway}
+use Rattle.mc_bot.proofs.Loops.{Underway}
 use Rattle.mc_bot.proofs.playing.Playing.play_lines.Given as goal
 
 abbrev pub invariant-loop-line : goal.invariant-loop-line

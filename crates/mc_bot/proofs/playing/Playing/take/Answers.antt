@@ -1,4 +1,3 @@
-use Rattle.std.proofs.Common.{refl}
 use Rattle.std.proofs.lemmas.Result.{err_from_is_err_and}
 use Rattle.mc_bot.specs.Playing.{rules_of}
 use Rattle.mc_bot.proofs.Taking.{packet_next_fails, packet_fails, packet_comes, next_goes_on}

@@ -1,7 +1,6 @@
-use Rattle.std.proofs.Common.{refl, arith}
 use Rattle.std.proofs.lemmas.Result.{err_from_is_err_and}
-use Rattle.mc_bot.specs.Playing.{rules_of, packets_taken, lines_played}
-use Rattle.mc_bot.proofs.Lines.{underway_none, many_more, many_fails, many_done}
+use Rattle.mc_bot.specs.Playing.{rules_of, packets_taken}
+use Rattle.mc_bot.proofs.Loops.{underway_none, many_more, many_fails, many_done}
 use Rattle.mc_bot.proofs.playing.Playing.take_many.Goals as goal
 
 pub loop-left-init : goal.loop-left-init

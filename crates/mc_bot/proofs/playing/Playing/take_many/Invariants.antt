@@ -1,5 +1,5 @@
 use Rattle.mc_bot.specs.Playing.{packets_taken, rules_of}
-use Rattle.mc_bot.proofs.Lines.{Underway}
+use Rattle.mc_bot.proofs.Loops.{Underway}
 use Rattle.mc_bot.proofs.playing.Playing.take_many.Given as goal
 
 abbrev pub invariant-loop-left : goal.invariant-loop-left

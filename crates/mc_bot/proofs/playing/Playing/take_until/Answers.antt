@@ -1,7 +1,8 @@
 use Rattle.std.proofs.Common.{sym, ◌∙◌}
 use Rattle.std.proofs.lemmas.Result.{err_from_is_err_and}
-use Rattle.mc_bot.specs.Playing.{rules_of, packets_taken, lines_played}
-use Rattle.mc_bot.proofs.Lines.{until, underway_none, until_more, until_stops, until_ends}
+use Rattle.mc_bot.specs.Playing.{rules_of}
+use Rattle.mc_bot.proofs.Lines.{until}
+use Rattle.mc_bot.proofs.Loops.{underway_none, until_more, until_stops, until_ends}
 use Rattle.mc_bot.proofs.playing.Playing.take_until.Goals as goal
 
 pub loop-cell-init : goal.loop-cell-init

@@ -1,6 +1,7 @@
 use Rattle.mc_bot.specs.Arriving.{to_come}
 use Rattle.mc_bot.specs.Playing.{rules_of}
-use Rattle.mc_bot.proofs.Lines.{Underway, until}
+use Rattle.mc_bot.proofs.Lines.{until}
+use Rattle.mc_bot.proofs.Loops.{Underway}
 use Rattle.mc_bot.proofs.playing.Playing.take_until.Given as goal
 
 abbrev pub invariant-loop-cell : goal.invariant-loop-cell
