@@ -106,8 +106,7 @@ run_steps {S} start left_ told keeping (Ok done) first step =
       exchanged = then_exchanged start.told told left_.told (start.port ∷ []) []
           (hello start.script.name start.port) one.given one.sent first one.exchanged;
       ended = λ cut is.
-          let b = cut_behind one.given one.frames keeping.incoming.splitting.held cut one.cut is in
-          (
+          let b = cut_behind one.given one.frames keeping.incoming.splitting.held cut one.cut is in (
             ap (λ (frames : List (List ℕ)). logged_lines start.rules start.script.lines
                 (bot_at (record {
                   seen = start.seen;

@@ -103,8 +103,13 @@ cell_fits x y z cell is = step (whole_of 33554432 33554431 x) (whole_of 2048 204
 
 few_encoded : (cs : List ℕ) → length (encodes cs) ≤ 4 * length cs
 few_encoded [] = omega arith
-few_encoded (c ∷ cs) = omega (arith, few_encoded cs, length-append (encode c) (encodes cs),
-    length-encode c, (len_utf8_bounds c).1)
+few_encoded (c ∷ cs) = omega (
+  arith,
+  few_encoded cs,
+  length-append (encode c) (encodes cs),
+  length-encode c,
+  (len_utf8_bounds c).1,
+)
 
 utf8_fits : (most : ℕ) (text : List ℕ) → IsUtf8 text → length (chars text) ≤ most →
     FitsText most text

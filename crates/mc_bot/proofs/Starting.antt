@@ -77,8 +77,7 @@ pub login_step : {S : Type 0} (rules : SeerRules S) (lines : List Line) (seen : 
 login_step {S} rules lines seen old incoming payload told told1 stage b stage' (Ok done) h is
     step =
     let first = (frame_comes logging seen seen old incoming payload told told1 told1 stage stage h
-    (login_taken payload seen old.read told1 (Ok tt) is) refl).0 in
-    (
+    (login_taken payload seen old.read told1 (Ok tt) is) refl).0 in (
       come_more (logged_lines rules lines) (lines_played rules lines) left_off _ _ b
           (then_come logged_in (lines_played rules lines) _ _ first) step.0,
       step.1,

@@ -49,12 +49,7 @@ fn put_start(alloc: Global, name: &Text, out: &mut Vec<u8>) -> Result<(), NoMemo
 
 /// Sends what a bot of a name sends first.
 #[tactic(auto, using(crate::proofs::Coming::none_sent))]
-fn send_hello<K: Link>(
-    alloc: Global,
-    name: &Text,
-    port: u16,
-    link: &mut K,
-) -> Result<(), BotFault>
+fn send_hello<K: Link>(alloc: Global, name: &Text, port: u16, link: &mut K) -> Result<(), BotFault>
     requires fits { FitsText 16 name.now }
     requires connected { (K.stage link.old).connected ≡ true }
     ensures sent { HasSent (hello name.now port) (K.told link.old) (K.told link.new) result }

@@ -17,14 +17,7 @@ pub fn play_row(words: &mut Words<'_>, answer: &mut Answer) {
     let port = words.number();
     let patience = words.number();
     if let Some(script) = script_of(words) {
-        let played = play(
-            words.alloc,
-            &script,
-            port,
-            patience,
-            &mut link,
-            &mut sink,
-        );
+        let played = play(words.alloc, &script, port, patience, &mut link, &mut sink);
         drop(script);
         put_end(played, answer);
         put_taken(&link, answer);
