@@ -231,6 +231,15 @@ def play_against(path, sent, script):
         return bot.finish(), heard, port
 
 
+def bots_dump_much(path):
+    """A dump that is longer than one write of it is whole: 700 texts of more than 100 bytes."""
+    said = [f'{{"text":"{number:0100}"}}' for number in range(700)]
+    chat = b"".join(protocol.packet(2, protocol.text(text), b"\0") for text in said)
+    ended, _, _ = play_against(path, WELCOME + chat, "join Al\nwait 700\n")
+    due = "age none\nbeat none\n" + "".join(f"chat {text}\n" for text in said)
+    expect(ended == (0, due, ""), f"a dump of {len(due)} bytes ends with {ended[0]}, {ended[2]!r}")
+
+
 def broken_links_are_told(path):
     """A connection that is reset is a fault of the link, in writing as in reading."""
     with socket.create_server((HOST, 0)) as server:
@@ -245,4 +254,4 @@ def broken_links_are_told(path):
 
 TESTS = [bots_log_in, bots_dig_and_place, bots_share_a_chest, bots_chat, bots_see_each_other_dig]
 TESTS += [the_rig_runs, bots_are_refused, bad_scripts_connect_nobody, bots_say_what_they_say]
-TESTS += [broken_links_are_told]
+TESTS += [bots_dump_much, broken_links_are_told]
