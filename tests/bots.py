@@ -12,6 +12,7 @@ import struct
 import subprocess
 import sys
 import time
+from concurrent.futures import ThreadPoolExecutor
 from pathlib import Path
 
 import protocol
@@ -156,14 +157,15 @@ def the_rig_runs(path):
 
 
 def bots_are_refused(path):
-    """What is not as a script wants it, or not in time, ends it."""
+    """What is not as a script wants it, or not in time, ends it. Each has a name of its own, since
+    the one before may be in play still."""
     with Program(path) as program:
         for script, options, due in (
             ("join A-l\nwait 1\n", (), (8, "refused: closed\n")),
             ("join Al\nexpect 8 3 8 2\n", (), (8, "refused: expect line 2 want 2 have none\n")),
-            ("join Al\nwait 35\nexpect 8 3 8 7\n", (),
+            ("join Bo\nwait 35\nexpect 8 3 8 7\n", (),
              (8, "refused: expect line 3 want 7 have 32\n")),
-            ("join Al\nuntil 8 3 8 7\n", ("patience=500",), (7, "budget 500\n")),
+            ("join Cy\nuntil 8 3 8 7\n", ("patience=500",), (7, "budget 500\n")),
         ):
             ended = Bot(path, program.port, script, *options).finish()
             expect(ended == (*due, ""), f"{script!r} ends with {ended}")
@@ -216,11 +218,11 @@ def bots_say_what_they_say(path):
 
 def play_against(path, sent, script):
     """Play a script against a server that sends these bytes and ends; answer how the bot ends, all
-    that it said, and the port."""
-    with socket.create_server((HOST, 0)) as server:
+    that it said, and the port. What it prints is read beside that, however long it is."""
+    with socket.create_server((HOST, 0)) as server, ThreadPoolExecutor(1) as reader:
         server.settimeout(PATIENCE)
         port = server.getsockname()[1]
-        bot = Bot(path, port, script)
+        ended = reader.submit(Bot(path, port, script).finish)
         with server.accept()[0] as stream:
             stream.settimeout(PATIENCE)
             stream.sendall(sent)
@@ -228,7 +230,7 @@ def play_against(path, sent, script):
             heard = b""
             while data := stream.recv(4096):
                 heard += data
-        return bot.finish(), heard, port
+        return ended.result(), heard, port
 
 
 def bots_dump_much(path):
