@@ -110,6 +110,7 @@ pub fn view<I: Source, O: Sink>(alloc: Global, input: &mut I, out: &mut O) -> Re
         (O.held out.old) (O.held out.new)
         (faults_of (I.faults input.old) (O.faults out.old))
         (faults_of (I.faults input.new) (O.faults out.new))) }
+    ensures counts { StandsOrRises (O.faults out.old) (O.faults out.new) }
 {
     let mut lines = Vec::new(alloc);
     let mut talks = Conversations::new(alloc);

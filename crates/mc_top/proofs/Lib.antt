@@ -13,5 +13,7 @@ pub mod Serves
 pub mod ServeKept
 pub mod BotPlays
 pub mod BotKept
+pub mod Captures
+pub mod Loads
 pub mod Runs
 pub mod Sent

@@ -1,6 +1,6 @@
 -- The options of a command are settings that it can begin with.
-use Rattle.std.proofs.Common.{◌≡◌, ℕ, ◌≤◌, Bool, true, false, cond, List, subst}
-use Rattle.std.proofs.Common.{arith}
+use Rattle.std.proofs.Common.{◌≡◌, ℕ, ◌≤◌, Bool, true, false, cond, List, [], ◌∷◌}
+use Rattle.std.proofs.Common.{subst, arith}
 use Rattle.std.specs.Prelude.{Option, Some, None, IfSome, option_map, codes}
 use Rattle.std.proofs.lemmas.Bool.Decides.{nat_tests}
 use Rattle.mc_wire.specs.declared.answers.Pace.{Pace}
@@ -8,13 +8,14 @@ use Rattle.mc_land.specs.declared.terrain.Terrain.{Terrain}
 use Rattle.mc_model.specs.Game.{AreSettings}
 use Rattle.mc_words.specs.declared.arguments.WorldOptions.{WorldOptions}
 use Rattle.mc_words.specs.declared.arguments.Command.{Command}
-use Rattle.mc_words.specs.declared.arguments.Command.TheVariants.{Replay}
+use Rattle.mc_words.specs.declared.arguments.Command.TheVariants.{Replay, Show}
 use Rattle.mc_text.specs.Digits.{digits_number, within}
 use Rattle.mc_words.specs.Arguments.{IsSet, value_in, number_in, number_or, players_in}
 use Rattle.mc_words.specs.Arguments.{view_in, land_in, mobs_in, world_with, world_in, port_in}
 use Rattle.mc_words.specs.Arguments.{tick_limit_in, event_limit_in, status_with}
 use Rattle.mc_words.specs.Arguments.{serve_with, serve_of, bot_with, bot_of, patience_in}
-use Rattle.mc_words.specs.Arguments.{command_of}
+use Rattle.mc_words.specs.Arguments.{view_of, show_of, client_in, load_with, load_of, clients_in}
+use Rattle.mc_words.specs.Arguments.{short_tick_limit_in, are_options, named, command_of}
 
 abbrev IsWithin : ℕ → ℕ → ℕ → Type 0
 IsWithin low high n = (low ≤ n) × (n ≤ high)
@@ -56,6 +57,15 @@ unfolding event_limit_in
 events_are arguments = number_is 4000000000 1 4000000000 (value_in (codes "events") arguments)
     (omega arith) (omega arith)
 
+clients_are : (arguments : List (List ℕ)) → IfSome (clients_in arguments) (IsWithin 1 50)
+unfolding clients_in
+clients_are arguments = stands_is 1 50 (value_in (codes "n") arguments)
+
+short_ticks_are : (arguments : List (List ℕ)) →
+    IfSome (short_tick_limit_in arguments) (IsWithin 1 10000)
+unfolding short_tick_limit_in
+short_ticks_are arguments = stands_is 1 10000 (value_in (codes "ticks") arguments)
+
 -- ---- all options of a command
 
 abbrev IsWorld : WorldOptions → Type 0
@@ -75,11 +85,11 @@ replay_is_set : (world : Option WorldOptions) → IfSome world IsWorld →
 replay_is_set None w = tt
 replay_is_set (Some world) w = w
 
-serve_is_set : (world : Option WorldOptions) (port ticks events : Option ℕ) (pace : Option Pace) →
-    IfSome world IsWorld → IfSome port (IsWithin 1 65535) →
+serve_is_set : (world : Option WorldOptions) (port ticks events : Option ℕ) (pace : Option Pace)
+    (capture : Option Bool) → IfSome world IsWorld → IfSome port (IsWithin 1 65535) →
     IfSome ticks (IsWithin 1 1000000000) → IfSome events (IsWithin 1 4000000000) →
-    IfSome (serve_with world port ticks events pace) IsSet
-serve_is_set world port ticks events pace w p t e = grind (arith, nat_tests)
+    IfSome (serve_with world port ticks events pace capture) IsSet
+serve_is_set world port ticks events pace capture w p t e = grind (arith, nat_tests)
 
 status_is_set : (players : Option ℕ) → IfSome players (IsWithin 1 50) →
     IfSome (status_with players) IsSet
@@ -100,9 +110,34 @@ bot_is_set port patience = grind (arith, nat_tests)
 bot_set_of : (arguments : List (List ℕ)) → IfSome (bot_of arguments) IsSet
 bot_set_of arguments = grind (arith, nat_tests, choice, bot_is_set)
 
+view_set_of : (arguments : List (List ℕ)) → IfSome (view_of arguments) IsSet
+view_set_of [] = tt
+view_set_of (argument ∷ arguments) = tt
+
+show_is_set : (client : Option ℕ) → IfSome (option_map Show client) IsSet
+show_is_set None = tt
+show_is_set (Some client) = tt
+
+show_set_of : (arguments : List (List ℕ)) → IfSome (show_of arguments) IsSet
+show_set_of arguments = choice (are_options (codes "client" ∷ []) arguments)
+    (option_map Show (client_in arguments)) None (show_is_set (client_in arguments)) tt
+
+load_is_set : (clients ticks : Option ℕ) → IfSome clients (IsWithin 1 50) →
+    IfSome ticks (IsWithin 1 10000) → IfSome (load_with clients ticks) IsSet
+load_is_set None ticks c t = tt
+load_is_set (Some clients) None c t = tt
+load_is_set (Some clients) (Some ticks) c t = record { clients = c; ticks = t }
+
+load_set_of : (arguments : List (List ℕ)) → IfSome (load_of arguments) IsSet
+load_set_of arguments = choice (are_options (codes "n" ∷ codes "ticks" ∷ []) arguments)
+    (load_with (clients_in arguments) (short_tick_limit_in arguments)) None
+    (load_is_set (clients_in arguments) (short_tick_limit_in arguments) (clients_are arguments)
+    (short_ticks_are arguments)) tt
+
 command_is_set : (arguments : List (List ℕ)) → IfSome (command_of arguments) IsSet
-unfolding command_of
-command_is_set arguments =
+unfolding named
+command_is_set [] = tt
+command_is_set (name ∷ arguments) =
     grind (
       arith,
       nat_tests,
@@ -113,6 +148,9 @@ command_is_set arguments =
       world_is,
       serve_set_of,
       bot_set_of,
+      view_set_of,
+      show_set_of,
+      load_set_of,
     )
 
 -- the options of the command that some arguments name

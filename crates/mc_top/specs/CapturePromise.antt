@@ -2,6 +2,7 @@
 -- their text was written, and what is wrong with the capture. Rules of this project, said once for
 -- `view` and `show`.
 use Rattle.std.specs.Prelude.{◌≡◌, ℕ, ◌⊎◌, List, [], take, Option, Some, None, option_map}
+use Rattle.std.specs.Prelude.{Result, Ok, Err}
 use Rattle.mc_wire.specs.Count.{Rose}
 use Rattle.mc_wire.specs.Stream.{Grows}
 use Rattle.mc_text.specs.Passes.{SendsPart}
@@ -14,6 +15,7 @@ use Rattle.mc_capture.specs.declared.record.Record.{Record}
 use Rattle.mc_capture.specs.OneTextLaws.{EndIsSized}
 use Rattle.mc_capture.specs.ViewText.{view_text}
 use Rattle.mc_capture.specs.Viewed.{Begins, IsRead}
+use Rattle.mc_show.specs.ShowText.{show_text}
 use Rattle.mc_words.specs.declared.bad_input.BadInput.{BadInput}
 use Rattle.mc_words.specs.declared.bad_input.InputFault.{InputFault}
 use Rattle.mc_words.specs.declared.bad_input.InputFault.TheVariants as faults
@@ -51,6 +53,10 @@ ended_by_capture ends.Read = ended.ReadFault
 ended_by_capture ends.Write = ended.WriteFault
 ended_by_capture ends.NoMemory = ended.NoMemory
 
+abbrev pub ended_by_read : Result (Unit {0}) CaptureEnd → Ended
+ended_by_read (Ok u) = ended.Done
+ended_by_read (Err end) = ended_by_capture end
+
 -- ---- what is written of one
 
 -- the text of its records, and what of that is written before it is known that nothing is wrong
@@ -61,6 +67,10 @@ pub record CaptureText : Type 0 where
 -- all, line by line
 abbrev pub viewed : CaptureText
 viewed = record { whole = view_text; underway = view_text }
+
+-- one client's world, once all is read
+abbrev pub shown : ℕ → CaptureText
+shown client = record { whole = show_text client; underway = λ records. [] }
 
 -- these are the first records of a capture, or none are
 abbrev pub AreFirst : Option (List ℕ) → List Record → Type 0

@@ -4,4 +4,6 @@ pub mod ReplayPromise
 pub mod ServePromise
 pub mod BotPromise
 pub mod BotReading
+pub mod CapturePromise
+pub mod LoadPromise
 pub mod Promises

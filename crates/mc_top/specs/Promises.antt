@@ -1,6 +1,6 @@
 -- What a run of the program promises, by the command that its arguments name and by how it ends.
--- Rules of this project. A new command is a case of `Leaves`, of `Does` and of `fault_of`. `Does`
--- and `fault_of` take the plans of the minds that were handed in.
+-- Rules of this project. A new command is a case of `Leaves`, of `Does`, of `FaultOf` and of
+-- `EndsFine`. `Does` and `FaultOf` take the plans of the minds that were handed in.
 use Rattle.std.specs.Prelude.{◌≡◌, ℕ, ◌⊎◌, List, Option, None, Some}
 use Rattle.std.specs.declared.string.String.{String}
 use Rattle.mc_model.specs.Minds.{Plans}
@@ -10,6 +10,7 @@ use Rattle.mc_words.specs.declared.ended.Ended.TheVariants as ended
 use Rattle.mc_words.specs.declared.refusal.Refusal.{Refusal}
 use Rattle.mc_words.specs.declared.arguments.Command.{Command}
 use Rattle.mc_words.specs.declared.arguments.Command.TheVariants.{Status, Replay, Serve, Bot}
+use Rattle.mc_words.specs.declared.arguments.Command.TheVariants.{View, Show, Load}
 use Rattle.mc_words.specs.Arguments.{command_of, bytes_of}
 use Rattle.mc_words.specs.Delivers.{Delivers}
 use Rattle.mc_words.specs.Devices.{Devices, InputStays, LinkStays, LobbyStays, streams_of}
@@ -17,6 +18,8 @@ use Rattle.mc_words.specs.Ended.{status_of}
 use Rattle.mc_status.specs.StatusText.{status_told}
 use Rattle.mc_words.specs.Told.{Told}
 use Rattle.mc_top.specs.BotPromise.{BotPromise, bot_fault}
+use Rattle.mc_top.specs.CapturePromise.{CapturePromise, IsCaptureFault, shown, viewed}
+use Rattle.mc_top.specs.LoadPromise.{LoadPromise}
 use Rattle.mc_top.specs.ReplayPromise.{Plays, replay_told, start_of}
 use Rattle.mc_top.specs.ServePromise.{ServePromise}
 
@@ -26,6 +29,10 @@ Leaves (Status most) before after = LobbyStays before after × LinkStays before 
 Leaves (Replay options) before after = LobbyStays before after × LinkStays before after
 Leaves (Serve options) before after = InputStays before after × LinkStays before after
 Leaves (Bot options) before after = LobbyStays before after
+Leaves View before after = LobbyStays before after × LinkStays before after
+Leaves (Show client) before after = LobbyStays before after × LinkStays before after
+Leaves (Load options) before after =
+    LobbyStays before after × LinkStays before after × InputStays before after
 
 -- a command that reads a text and writes another delivers what it tells of that
 abbrev pub Tells : (List ℕ → Told) → Ended → Devices → Devices → Type 0
@@ -39,27 +46,37 @@ Does plans (Replay options) how before after =
     × Plays (start_of plans options) how before.left
 Does plans (Serve options) how before after = ServePromise plans options how before after
 Does plans (Bot options) how before after = BotPromise options how before after
+Does plans View how before after =
+    CapturePromise viewed how (streams_of before) (streams_of after)
+Does plans (Show client) how before after =
+    CapturePromise (shown client) how (streams_of before) (streams_of after)
+Does plans (Load options) how before after = LoadPromise options how before after
 
 -- what holds where a command ended so, from the devices before it to those after it
 abbrev pub Promises : Plans → Command → Ended → Devices → Devices → Type 0
 Promises plans command how before after =
     Leaves command before after × Does plans command how before after
 
--- the first fault of its input, or none; None where it reads no input
-abbrev pub fault_of : Plans → Command → Option (List ℕ → Option BadInput)
-fault_of plans (Status most) = Some (λ input. (status_told most input).fault)
-fault_of plans (Replay options) = Some (λ input. (replay_told (start_of plans options) input).fault)
-fault_of plans (Serve options) = None
-fault_of plans (Bot options) = Some bot_fault
+-- what the first fault of its input is, or that there is none; None where it reads no input
+abbrev pub FaultOf : Plans → Command → Option (List ℕ → Option BadInput → Type 0)
+FaultOf plans (Status most) = Some (λ input bad. (status_told most input).fault ≡ bad)
+FaultOf plans (Replay options) =
+    Some (λ input bad. (replay_told (start_of plans options) input).fault ≡ bad)
+FaultOf plans (Serve options) = None
+FaultOf plans (Bot options) = Some (λ input bad. bot_fault input ≡ bad)
+FaultOf plans View = Some IsCaptureFault
+FaultOf plans (Show client) = Some IsCaptureFault
+FaultOf plans (Load options) = None
 
 -- a command reads no input, or what is left of it is told and nothing is wrong with that
-abbrev pub IsFineInput : Option (List ℕ → Option BadInput) → Option (List ℕ) → Type 0
-IsFineInput (Some fault) left = (input : List ℕ) × (left ≡ Some input) × (fault input ≡ None)
+abbrev pub IsFineInput : Option (List ℕ → Option BadInput → Type 0) → Option (List ℕ) → Type 0
+IsFineInput (Some fault) left = (input : List ℕ) × (left ≡ Some input) × fault input None
 IsFineInput None left = Unit {0}
 
 -- a command reads an input, which is told, and this is its first fault
-abbrev pub HasFault : Option (List ℕ → Option BadInput) → BadInput → Option (List ℕ) → Type 0
-HasFault (Some fault) bad left = (input : List ℕ) × (left ≡ Some input) × (fault input ≡ Some bad)
+abbrev pub HasFault : Option (List ℕ → Option BadInput → Type 0) → BadInput → Option (List ℕ) →
+    Type 0
+HasFault (Some fault) bad left = (input : List ℕ) × (left ≡ Some input) × fault input (Some bad)
 HasFault None bad left = ⊥
 
 -- how a command ends where nothing is wrong with its input, no device fails and memory suffices
@@ -69,6 +86,9 @@ EndsFine (Replay options) how = how ≡ ended.Done
 EndsFine (Serve options) how = (how ≡ ended.Done) ⊎ ((n : ℕ) × (how ≡ ended.Budget n))
 EndsFine (Bot options) how = (how ≡ ended.Done)
     ⊎ ((how ≡ ended.Budget options.patience) ⊎ ((why : Refusal) × (how ≡ ended.Refused why)))
+EndsFine View how = how ≡ ended.Done
+EndsFine (Show client) how = how ≡ ended.Done
+EndsFine (Load options) how = how ≡ ended.Done
 
 -- the arguments name no command with its options
 abbrev pub NamesNone : {Z : Type 0} → List (String Z) → Type 0

@@ -4,8 +4,8 @@ ghost use Rattle.mc_top.specs.BotPromise.{BotEnds, IsScript, bad_of, ended_by_pl
 ghost use Rattle.mc_top.specs.BotReading.{HasNoScript};
 
 use mc_bot::{BotFault, Script, ScriptFault, ScriptKind, ScriptRead, play};
-use mc_wire::{InputError, Link, Sink, Source};
 use mc_text::read_text;
+use mc_wire::{InputError, Link, Sink, Source};
 use mc_words::{BadInput, BotOptions, Ended, InputFault, Refusal};
 use std::alloc::Global;
 

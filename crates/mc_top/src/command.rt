@@ -8,12 +8,14 @@ ghost use Rattle.mc_status.specs.StatusText.{status_told};
 ghost use Rattle.mc_top.specs.Promises.{IsStatus, KeepsPromise, NamesNone, Promises};
 
 use crate::bot::bot;
+use crate::captures::{show, view};
+use crate::load::load;
 use crate::replay::replay;
 use crate::serve::serve;
 use mc_entities::Mind;
 use mc_status::write_status;
-use mc_wire::{InputError, Link, Lobby, Sink, Source};
 use mc_text::read_text;
+use mc_wire::{InputError, Link, Lobby, Sink, Source};
 use mc_words::{Command, Ended, finish};
 use std::alloc::Global;
 
@@ -62,6 +64,18 @@ fn perform<L: Lobby, K: Link, I: Source, O: Sink, M: Mind>(
         Command::Bot(options) => {
             drop(minds);
             bot(alloc, options, link, input, out)
+        }
+        Command::View => {
+            drop(minds);
+            view(alloc, input, out)
+        }
+        Command::Show(client) => {
+            drop(minds);
+            show(alloc, client, input, out)
+        }
+        Command::Load(options) => {
+            drop(minds);
+            load(alloc, options, out)
         }
     };
     finish(alloc, ended, out)

@@ -7,8 +7,10 @@
 #![tactic(auto)]
 
 mod bot;
+mod captures;
 mod command;
 mod laws;
+mod load;
 mod replay;
 mod replay_lines;
 mod serve;

@@ -18,8 +18,8 @@ use crate::replay_lines::put_lines;
 use crate::world::new_server;
 use mc_entities::Mind;
 use mc_server::{Input, Server, Serving};
-use mc_wire::{InputError, Sink, Source};
 use mc_text::{Unfinished, read_text};
+use mc_wire::{InputError, Sink, Source};
 use mc_words::{BadInput, Ended, Script, ScriptError, ScriptEvent, WorldOptions};
 use std::alloc::Global;
 

@@ -12,8 +12,8 @@ ghost use Rattle.mc_top.specs.Replaying.{TakesFront, taken, sent_in, forgotten, 
 ghost use Rattle.mc_top.specs.Replaying.{all_sent, all_forgotten, all_shut};
 
 use mc_events::Server;
-use mc_wire::Sink;
 use mc_text::{HEX_PIECE, Unfinished, put, put_hex, write_out};
+use mc_wire::Sink;
 use std::alloc::Global;
 
 /// Takes the first bytes that a connection is owed and puts them as hex, and says whether there

@@ -10,8 +10,8 @@ use crate::world::new_server;
 use mc_bytes::NoMemory;
 use mc_entities::Mind;
 use mc_server::{Budget, DriveFault, Tally, drive};
-use mc_wire::{Lobby, Sink, write_all};
 use mc_text::Unfinished;
+use mc_wire::{Lobby, Sink, write_all};
 use mc_words::{Ended, ServeOptions};
 use std::alloc::Global;
 

@@ -4,9 +4,13 @@ use Rattle.mc_words.proofs.Delivering.{delivers}
 use Rattle.mc_top.specs.ReplayPromise.{replay_told}
 use Rattle.mc_top.proofs.Replays.{plays_on}
 use Rattle.mc_top.proofs.BotKept.{bot_kept}
+use Rattle.mc_top.specs.CapturePromise.{shown, viewed}
+use Rattle.mc_top.proofs.Captures.{capture_kept, shown_is_text, viewed_is_text}
+use Rattle.mc_top.proofs.Loads.{load_kept}
 use Rattle.mc_top.proofs.ServeKept.{serve_kept}
 use Rattle.mc_top.proofs.command.perform.Goals as goal
 use Rattle.mc_top.proofs.command.perform.Goals.{in-Status, in-Replay, in-Serve, in-Bot}
+use Rattle.mc_top.proofs.command.perform.Goals.{in-View, in-Show, in-Load}
 
 pub returns : goal.returns
 returns g c = elim c.match-command.branch [
@@ -53,5 +57,26 @@ returns g c = elim c.match-command.branch [
         (refl, refl),
         bot_kept _ g.O.Sink.held g.O.Sink.faults w.in-Bot.options _ _ _ _ _ _ c.args.out.now
             w.bot-ended.new.out c.finish.new.out w.bot-ended.result c.finish.result said last,
+      )
+  | in-View w ↦
+      let last = rw (w.ended-is, w.out-is) at c.finish.ensures in
+      rw (w.in-View.is, w.lobby-is, w.link-is, w.input-is) (
+        (refl, refl),
+        capture_kept viewed w.view-ended.result c.finish.result _ _ _ _ _ _ _ _ _ _
+            viewed_is_text w.view-ended.ensures last,
+      )
+  | in-Show w ↦
+      let last = rw (w.ended-is, w.out-is) at c.finish.ensures in
+      rw (w.in-Show.is, w.lobby-is, w.link-is, w.input-is) (
+        (refl, refl),
+        capture_kept (shown w.in-Show.client) w.show-ended.result c.finish.result
+            _ _ _ _ _ _ _ _ _ _ (shown_is_text w.in-Show.client) w.show-ended.ensures last,
+      )
+  | in-Load w ↦
+      let last = rw (w.ended-is, w.out-is) at c.finish.ensures in
+      rw (w.in-Load.is, w.lobby-is, w.link-is, w.input-is) (
+        ((refl, refl), (refl, refl)),
+        load_kept w.in-Load.options w.load-ended.result c.finish.result _ _ _ _ _ _
+            w.load-ended.ensures last,
       )
 ]
