@@ -20,7 +20,8 @@ use Rattle.mc_model.specs.Run.{history, owed_in, owed_of}
 use Rattle.mc_model.specs.World.{World}
 use Rattle.mc_model.proofs.Maps.Sorted.{each_found}
 use Rattle.mc_model.proofs.Maps.Lookups.{untied_number}
-use Rattle.mc_events.specs.Asking.{is_over, is_done_in}
+use Rattle.mc_links.specs.Kept.{is_pending}
+use Rattle.mc_events.specs.Asking.{is_over, is_done_in, pending_in}
 use Rattle.mc_events.proofs.Loops.{AreOnce, is_of}
 use Rattle.mc_events.proofs.Numbers.{keys_once}
 use Rattle.mc_top.specs.ReplayText.{owes, is_shut, tells_sent, tells_shut, telling_line, tellings}
@@ -203,6 +204,77 @@ shuts_all v (e ∷ es) once there =
     (shuts_all (forgotten e.0 v) es once.1 (forgotten_still v e es once.0 there.1))
     ∙ shut_first e (is_shut e) (filter is_shut es)
 
+-- ---- those that are owed bytes or closed
+
+abbrev pub pending_entries : World → List (ℕ × Link)
+pending_entries w = filter (λ (e : ℕ × Link). is_pending e.1) (entries w.links)
+
+-- all that pass a test are among those that pass a weaker one
+passing_among : (test weaker : ℕ × Link → Bool) → ((e : ℕ × Link) → test e ≡ true →
+    weaker e ≡ true) → (es : List (ℕ × Link)) → filter test (filter weaker es) ≡ filter test es
+passing_among test weaker follows [] = refl
+passing_among test weaker follows (e ∷ es) =
+    by (weaker e) refl (test e) refl (passing_among test weaker follows es)
+  where
+    by : (b : Bool) → weaker e ≡ b → (c : Bool) → test e ≡ c →
+        filter test (filter weaker es) ≡ filter test es →
+        filter test (cond b (e ∷ filter weaker es) (filter weaker es))
+        ≡ cond c (e ∷ filter test es) (filter test es)
+    by true kept true is rest = rw (is, rest) refl
+    by true kept false is rest = rw (is, rest) refl
+    by false out true is rest = absurd (let e1 = follows e is in cc)
+    by false out false is rest = rest
+
+owing_among : (es : List (ℕ × Link)) →
+    filter owes (filter (λ (e : ℕ × Link). is_pending e.1) es) ≡ filter owes es
+owing_among es =
+    passing_among owes (λ (e : ℕ × Link). is_pending e.1) (λ e is. pending e is) es
+  where
+    pending : (e : ℕ × Link) → owes e ≡ true → is_pending e.1 ≡ true
+    pending e is = grind (arith, nat_tests, is)
+
+shut_among : (es : List (ℕ × Link)) →
+    filter is_shut (filter (λ (e : ℕ × Link). is_pending e.1) es) ≡ filter is_shut es
+shut_among es =
+    passing_among is_shut (λ (e : ℕ × Link). is_pending e.1) (λ e is. pending e is) es
+  where
+    pending : (e : ℕ × Link) → is_shut e ≡ true → is_pending e.1 ≡ true
+    pending e is = rw is refl
+
+-- what holds of all holds of some
+all_among : (P : ℕ × Link → Type 0) (test : ℕ × Link → Bool) (es : List (ℕ × Link)) →
+    AllByRecursion P es → AllByRecursion P (filter test es)
+all_among P test [] all = tt
+all_among P test (e ∷ es) all = by (test e) (all_among P test es all.1)
+  where
+    by : (b : Bool) → AllByRecursion P (filter test es) →
+        AllByRecursion P (cond b (e ∷ filter test es) (filter test es))
+    by true rest = (all.0, rest)
+    by false rest = rest
+
+-- who is not among all is not among some
+none_among : (test : ℕ × Link → Bool) (k : ℕ) (es : List (ℕ × Link)) →
+    is_of k (numbers es) ≡ false → is_of k (numbers (filter test es)) ≡ false
+none_among test k [] none = none
+none_among test k (e ∷ es) none = grind (arith, nat_tests, none, none_among test k es)
+
+once_among : (test : ℕ × Link → Bool) (es : List (ℕ × Link)) → AreOnce (numbers es) →
+    AreOnce (numbers (filter test es))
+once_among test [] once = tt
+once_among test (e ∷ es) once = by (test e) (once_among test es once.1)
+  where
+    by : (b : Bool) → AreOnce (numbers (filter test es)) →
+        AreOnce (numbers (cond b (e ∷ filter test es) (filter test es)))
+    by true rest = (none_among test e.0 es once.0, rest)
+    by false rest = rest
+
+pending_once : (w : World) → AreOnce (numbers (pending_entries w))
+pending_once w = once_among (λ (e : ℕ × Link). is_pending e.1) (entries w.links) (all_once w)
+
+pending_there : (w : World) → AreAt as_is w (pending_entries w)
+pending_there w = all_among (λ (e : ℕ × Link). get w.links e.0 ≡ Some e.1)
+    (λ (e : ℕ × Link). is_pending e.1) (entries w.links) (all_there w)
+
 -- ---- all of it
 
 abbrev pub tooks : World → List Event
@@ -215,14 +287,18 @@ pub settled_is : (w : World) → settled w ≡ history (history w (tooks w)) (fo
 unfolding takings
 settled_is w = fold-append _ w (tooks w) (forgots w)
 
--- taking all and then forgetting those that are closed
+-- taking all and then forgetting those that are closed, of those that are owed bytes or closed
 pub all_settled : (w : World) →
-    all_forgotten (keys w.links) (all_taken (keys w.links) w) ≡ settled w
+    all_forgotten (pending_in w) (all_taken (pending_in w) w) ≡ settled w
 all_settled w =
-    let es = entries w.links in
-    history_forgot (all_taken (numbers es) w) es (all_once w)
-    (takes_all w es (all_once w) (all_there w))
-    ∙ ap (λ (x : World). history x (forgots w)) (history_took w es (all_once w) (all_there w))
+    let es = pending_entries w in
+    history_forgot (all_taken (numbers es) w) es (pending_once w)
+    (takes_all w es (pending_once w) (pending_there w))
+    ∙ ap (λ (fs : List (ℕ × Link)). history (all_taken (numbers es) w) (forgot_so fs))
+    (shut_among (entries w.links))
+    ∙ ap (λ (x : World). history x (forgots w))
+    (history_took w es (pending_once w) (pending_there w)
+    ∙ ap (λ (fs : List (ℕ × Link)). history w (took_so fs)) (owing_among (entries w.links)))
     ∙ sym (settled_is w)
 
 -- the lines, of each in turn
@@ -232,10 +308,18 @@ unfolding lines_after tellings
 told_lines w = simp (flat_map-append, flat_map-map)
 
 pub all_told : (w : World) →
-    all_sent (keys w.links) w ++ all_shut (keys w.links) (all_taken (keys w.links) w)
+    all_sent (pending_in w) w ++ all_shut (pending_in w) (all_taken (pending_in w) w)
     ≡ lines_after w
 all_told w =
-    grind (arith, nat_tests, sends_all, all_once, all_there, shuts_all, takes_all, told_lines)
+    let es = pending_entries w in
+    ap (λ (t : List ℕ). t ++ all_shut (numbers es) (all_taken (numbers es) w))
+    (sends_all w es (pending_once w) (pending_there w)
+    ∙ ap (flat_map sent_line) (owing_among (entries w.links)))
+    ∙ ap (λ (t : List ℕ). flat_map sent_line (filter owes (entries w.links)) ++ t)
+    (shuts_all (all_taken (numbers es) w) es (pending_once w)
+    (takes_all w es (pending_once w) (pending_there w))
+    ∙ ap (flat_map shut_line) (shut_among (entries w.links)))
+    ∙ sym (told_lines w)
 
 -- ---- what is left
 

@@ -3,7 +3,6 @@ use Rattle.std.proofs.Common.{◌≡◌, ℕ, ◌+◌, ◌<◌, ◌≤◌, Bool,
 use Rattle.std.proofs.Common.{length, get_or, take, drop, refl, sym, subst, ap, ◌∙◌, append_assoc}
 use Rattle.std.proofs.Common.{arith}
 use Rattle.std.specs.Prelude.{◌↔◌, Option, codes, decimal}
-use Rattle.std.specs.FinMap.{keys}
 use Rattle.std.proofs.lemmas.List.{append-nil, take-take}
 use Rattle.std.proofs.Math.Seq.{drop-cons}
 use Rattle.std.proofs.lemmas.Bool.Decides.{nat_tests}
@@ -12,6 +11,7 @@ use Rattle.mc_wire.specs.Stream.{Grows}
 use Rattle.mc_model.specs.Step.{took, step}
 use Rattle.mc_model.specs.Run.{owed_in}
 use Rattle.mc_model.specs.World.{World}
+use Rattle.mc_events.specs.Asking.{pending_in}
 use Rattle.mc_events.specs.Served.{ServerValue}
 use Rattle.mc_events.specs.Stands.{Stands}
 use Rattle.mc_text.specs.Passes.{Passes, Breaks}
@@ -257,13 +257,13 @@ underway_breaks change line ks w middle held mid held' i k d old half within is 
 
 -- ---- the lines of a world
 
-told_is : (w : World) (ids : List ℕ) → ids ≡ keys w.links →
+told_is : (w : World) (ids : List ℕ) → ids ≡ pending_in w →
     all_sent ids w ++ all_shut ids (all_taken ids w) ≡ lines_after w
 told_is w ids is = rw is (all_told w)
 
 -- all that is told of a world was written, and nothing waits
 pub lines_put : (w : World) (server : ServerValue) (ids half near : List ℕ)
-    (h0 h1 h2 h3 : Option (List ℕ)) → ids ≡ keys w.links →
+    (h0 h1 h2 h3 : Option (List ℕ)) → ids ≡ pending_in w →
     Stands server (all_forgotten ids (all_taken ids w)) → Passes h0 h1 [] (all_sent ids w) half [] →
     Passes h1 h2 half (all_shut ids (all_taken ids w)) near [] → Passes h2 h3 near [] [] [] →
     Stands server (settled w) × Grows h0 h3 (lines_after w)
@@ -280,7 +280,7 @@ lines_put w server ids half near h0 h1 h2 h3 is stands sent shut out =
 
 -- it broke in what tells what was sent
 pub lines_break_sent : (w : World) (ids : List ℕ) (h0 h1 : Option (List ℕ)) →
-    ids ≡ keys w.links → Breaks h0 h1 [] (all_sent ids w) → Breaks h0 h1 [] (lines_after w)
+    ids ≡ pending_in w → Breaks h0 h1 [] (all_sent ids w) → Breaks h0 h1 [] (lines_after w)
 lines_break_sent w ids h0 h1 is b =
     let P : List ℕ → Type 0 = λ t. Breaks h0 h1 [] t in
     subst P (told_is w ids is)
@@ -288,7 +288,7 @@ lines_break_sent w ids h0 h1 is b =
 
 -- in what tells who was closed
 pub lines_break_shut : (w : World) (ids half : List ℕ) (h0 h1 h2 : Option (List ℕ)) →
-    ids ≡ keys w.links → Passes h0 h1 [] (all_sent ids w) half [] →
+    ids ≡ pending_in w → Passes h0 h1 [] (all_sent ids w) half [] →
     Breaks h1 h2 half (all_shut ids (all_taken ids w)) → Breaks h0 h2 [] (lines_after w)
 lines_break_shut w ids half h0 h1 h2 is sent b =
     let P : List ℕ → Type 0 = λ t. Breaks h0 h2 [] t in
@@ -298,7 +298,7 @@ lines_break_shut w ids half h0 h1 h2 is sent b =
 
 -- or where all waits
 pub lines_break_out : (w : World) (ids half near : List ℕ) (h0 h1 h2 h3 : Option (List ℕ)) →
-    ids ≡ keys w.links → Passes h0 h1 [] (all_sent ids w) half [] →
+    ids ≡ pending_in w → Passes h0 h1 [] (all_sent ids w) half [] →
     Passes h1 h2 half (all_shut ids (all_taken ids w)) near [] → Breaks h2 h3 near [] →
     Breaks h0 h3 [] (lines_after w)
 lines_break_out w ids half near h0 h1 h2 h3 is sent shut b =

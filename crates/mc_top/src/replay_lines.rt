@@ -176,8 +176,8 @@ fn put_all_shut<O: Sink>(
     Ok(())
 }
 
-/// Takes all that each connection is owed, forgets those that are closed, and writes the lines that
-/// tell it. `lines` is room for those that wait to be written; none waits before or after.
+/// Takes all that connections are owed, forgets those that are closed, and writes the lines that
+/// tell it; it looks once at each connection, and only at those that are pending again. `lines` is room for those that wait to be written; none waits before or after.
 pub fn put_lines<O: Sink>(
     alloc: Global,
     server: &mut Server,
@@ -193,7 +193,7 @@ pub fn put_lines<O: Sink>(
     ensures failed { IsErrOf result Unfinished.Failed → Rose (O.faults out.old) (O.faults out.new) }
     ensures counts { StandsOrRises (O.faults out.old) (O.faults out.new) }
 {
-    let connections = Vec::from_slice(alloc, server.connections())?;
+    let connections = server.pending()?;
     put_all_sent(alloc, server, &connections, lines, out)?;
     put_all_shut(alloc, server, &connections, lines, out)?;
     write_out(lines, out)?;

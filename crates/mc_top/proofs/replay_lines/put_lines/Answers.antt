@@ -1,6 +1,6 @@
 use Rattle.std.proofs.Common.{◌≡◌, List, ℕ, [], subst, ◌∙◌}
-use Rattle.std.specs.FinMap.{keys}
 use Rattle.std.proofs.lemmas.Result.{err_from_is_err_and}
+use Rattle.mc_events.specs.Asking.{pending_in}
 use Rattle.mc_text.specs.Passes.{Passes, Breaks}
 use Rattle.mc_top.specs.Replaying.{all_taken, all_sent}
 use Rattle.mc_top.proofs.Tellings.{lines_put, lines_break_sent, lines_break_shut, lines_break_out}
@@ -9,8 +9,8 @@ use Rattle.mc_top.proofs.replay_lines.put_lines.Goals as goal
 pub returns-in_err-put_all_sent-clause-breaks : goal.returns-in_err-put_all_sent-clause-breaks
 returns-in_err-put_all_sent-clause-breaks g c w s =
     let ids = c.in_ok-connections.connections.items in
-    let is : ids ≡ keys w.links =
-    c.in_ok-connections.ensures.items ∙ c.connections.ensures w s in
+    let is : ids ≡ pending_in w =
+    c.in_ok-connections.ensures w s in
     let P : List ℕ → Type 0 = λ t. Breaks (g.O.Sink.held c.args.out.now)
     (g.O.Sink.held c.put_all_sent.new.out) t (all_sent ids w) in
     let b = rw c.deref.ensures.value at (c.in_err-put_all_sent.ensures.breaks w s) in
@@ -21,8 +21,8 @@ returns-in_err-put_all_sent-clause-breaks g c w s =
 pub returns-in_err-put_all_shut-clause-breaks : goal.returns-in_err-put_all_shut-clause-breaks
 returns-in_err-put_all_shut-clause-breaks g c w s =
     let ids = c.in_ok-connections.connections.items in
-    let is : ids ≡ keys w.links =
-    c.in_ok-connections.ensures.items ∙ c.connections.ensures w s in
+    let is : ids ≡ pending_in w =
+    c.in_ok-connections.ensures w s in
     let P : List ℕ → Type 0 =
     λ t. Passes (g.O.Sink.held c.args.out.now) (g.O.Sink.held c.put_all_sent.new.out) t
     (all_sent ids w) c.put_all_sent.new.lines.items [] in
@@ -37,8 +37,8 @@ returns-in_err-put_all_shut-clause-breaks g c w s =
 pub returns-in_err-write_out-clause-breaks : goal.returns-in_err-write_out-clause-breaks
 returns-in_err-write_out-clause-breaks g c w s =
     let ids = c.in_ok-connections.connections.items in
-    let is : ids ≡ keys w.links =
-    c.in_ok-connections.ensures.items ∙ c.connections.ensures w s in
+    let is : ids ≡ pending_in w =
+    c.in_ok-connections.ensures w s in
     let P : List ℕ → Type 0 =
     λ t. Passes (g.O.Sink.held c.args.out.now) (g.O.Sink.held c.put_all_sent.new.out) t
     (all_sent ids w) c.put_all_sent.new.lines.items [] in
@@ -53,8 +53,8 @@ returns-in_err-write_out-clause-breaks g c w s =
 pub returns-clause-settled : goal.returns-clause-settled
 returns-clause-settled g c w s =
     let ids = c.in_ok-connections.connections.items in
-    let is : ids ≡ keys w.links =
-    c.in_ok-connections.ensures.items ∙ c.connections.ensures w s in
+    let is : ids ≡ pending_in w =
+    c.in_ok-connections.ensures w s in
     let P : List ℕ → Type 0 =
     λ t. Passes (g.O.Sink.held c.args.out.now) (g.O.Sink.held c.put_all_sent.new.out) t
     (all_sent ids w) c.put_all_sent.new.lines.items [] in
