@@ -30,16 +30,6 @@ def usage_is_told(path):
         expect(errors == "", f"{arguments}: {errors!r} on standard error")
 
 
-def captures_are_refused(path):
-    """There is no capture yet: only `no` is taken for one."""
-    begun = ["serve", f"port={free_port()}", "ticks=1"]
-    for value in ("yes", "", "NO", "no ", "out.txt"):
-        ended = run(path, *begun, f"capture={value}")
-        expect(ended == (2, USAGE, ""), f"capture={value} ends with {ended}")
-    ended = run(path, *begun, "capture=no")
-    expect(ended[:2] == (0, "ticks=1 joins=0 closed=0\n"), f"capture=no ends with {ended}")
-
-
 def ports_in_use_are_told(path):
     """A port that another listens on ends the run with 5, and says why."""
     with socket.create_server((HOST, 0)) as taken:
@@ -144,7 +134,6 @@ def turns_wait_for_a_join(path):
 
 TESTS = [
     usage_is_told,
-    captures_are_refused,
     ports_in_use_are_told,
     runs_end_by_their_ticks,
     budgets_end_runs,

@@ -22,7 +22,7 @@ def free_port():
 class Program:
     """One run of `serve`, which is ended in every case when the `with` block is left."""
 
-    def __init__(self, path, environment=None, limits=None, **options):
+    def __init__(self, path, environment=None, limits=None, output=subprocess.PIPE, **options):
         self.port = options.get("port") or free_port()
         named = {"port": self.port, "ticks": ENDLESS, **options}
         arguments = [f"{name}={value}" for name, value in named.items()]
@@ -31,7 +31,7 @@ class Program:
         self.process = subprocess.Popen(
             [path, "serve", *arguments],
             stdin=subprocess.DEVNULL,
-            stdout=subprocess.PIPE,
+            stdout=output,
             stderr=subprocess.PIPE,
             env=environment,
             preexec_fn=limits,
@@ -51,7 +51,7 @@ class Program:
         output, errors = self.stop()
         if kind is None and not self.is_finished:
             expect(was_running, f"the program ended by itself with {self.process.returncode}")
-            expect(not output + errors, f"the program said {output!r} and {errors!r}")
+            expect(not (output or b"") + errors, f"the program said {output!r} and {errors!r}")
 
     def wait_for_listening(self):
         """Wait until the program says on standard error that it listens."""
@@ -73,7 +73,13 @@ class Program:
             output, errors = self.process.communicate(timeout=patience)
         except subprocess.TimeoutExpired as error:
             raise Unexpected(f"it still runs after {patience} s") from error
-        return self.process.returncode, output.decode(), (self.errors + errors).decode()
+        return self.process.returncode, (output or b"").decode(), (self.errors + errors).decode()
+
+    def kill(self):
+        """End the process at once, as nothing can catch."""
+        self.is_finished = True
+        self.process.kill()
+        self.process.communicate()
 
     def stop(self):
         """End the process where it still runs; answer what it said since it listened."""
