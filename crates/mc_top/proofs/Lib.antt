@@ -14,6 +14,7 @@ pub mod ServeKept
 pub mod BotPlays
 pub mod BotKept
 pub mod Captures
+pub mod Recordings
 pub mod Loads
 pub mod Runs
 pub mod Sent

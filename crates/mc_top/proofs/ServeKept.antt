@@ -1,6 +1,6 @@
 -- The promise of `serve`, from what its function says and from its last line.
 use Rattle.std.proofs.Common.{◌≡◌, ℕ, ◌⊎◌, inl, inr, List, Option, sym, subst, refl, ap, ◌∙◌}
-use Rattle.std.proofs.Common.{arith}
+use Rattle.std.proofs.Common.{arith, Bool, true, false}
 use Rattle.std.proofs.lemmas.Bool.Decides.{nat_tests}
 use Rattle.mc_wire.specs.Count.{Rose}
 use Rattle.mc_wire.specs.LobbyCounts.{LobbyCounts}
@@ -12,8 +12,9 @@ use Rattle.mc_words.specs.declared.ended.Ended.TheVariants as ended
 use Rattle.mc_words.specs.Devices.{Devices, LinkDevice, WroteLast, devices}
 use Rattle.mc_words.specs.Ended.{budget_line, net_fault_line}
 use Rattle.mc_words.specs.Finishing.{Finishes}
-use Rattle.mc_top.specs.ServePromise.{EndsServing, HasLost, HasServedPart, HasSpent, ServePromise}
-use Rattle.mc_top.specs.ServePromise.{Summed, SummedPart}
+use Rattle.mc_top.specs.RecordPromise.{Records, ServePromise, ServesBy}
+use Rattle.mc_top.specs.ServePromise.{EndsServing, HasLost, HasServedPart, HasSpent, Summed}
+use Rattle.mc_top.specs.ServePromise.{SummedPart, Sums}
 
 -- nothing was written since
 still_holds : (P : Option (List ℕ) → Type 0) (held held' : Option (List ℕ)) → held' ≡ held →
@@ -49,13 +50,13 @@ pub serve_kept : (A : Type 0) (view : A → Option (List ℕ)) (count : A → �
     (left : Option (List ℕ)) (reads : ℕ) (old mid new : A) →
     ServeEnded A view count plans options how told told' counts counts' old mid →
     Finishes how result (view mid) (view new) (count mid) (count new) →
-    ServePromise plans options result (devices told counts link left reads (view old) (count old))
+    Sums plans options result (devices told counts link left reads (view old) (count old))
     (devices told' counts' link left reads (view new) (count new))
 serve_kept A view count plans options how result told told' counts counts' link left reads old mid
     new s f = kept how s f
   where
     P : Ended → Type 0
-    P e = ServePromise plans options e (devices told counts link left reads (view old) (count old))
+    P e = Sums plans options e (devices told counts link left reads (view old) (count old))
         (devices told' counts' link left reads (view new) (count new))
 
     kept : (e : Ended) →
@@ -90,17 +91,33 @@ serve_kept A view count plans options how result told told' counts counts' link 
         (inr (_, spent.0), last.1.0 ∙ ap view spent.1)
 
 -- a lobby is served, unless memory runs out, a device fails or all events that may come did
+serve_served_by : (capture : Bool) (plans : Plans) (options : ServeOptions) (how : Ended)
+    (before after : Devices) → ServesBy capture plans options how before after →
+    ¬ Rose before.write_faults after.write_faults →
+    ¬ Rose before.counts.faults after.counts.faults →
+    ((how ≡ ended.Done) ⊎ ((n : ℕ) × (how ≡ ended.Budget n))) ⊎ (how ≡ ended.NoMemory)
+serve_served_by capture plans options ended.Done before after p writes faults = inl (inl refl)
+serve_served_by capture plans options ended.NoMemory before after p writes faults = inr refl
+serve_served_by capture plans options (ended.Budget n) before after p writes faults =
+    inl (inr (n, refl))
+serve_served_by false plans options ended.Usage before after p writes faults = absurd p
+serve_served_by false plans options ended.ReadFault before after p writes faults = absurd p
+serve_served_by false plans options ended.WriteFault before after p writes faults =
+    absurd (writes p.0)
+serve_served_by false plans options ended.NetFault before after p writes faults = absurd (faults p.0)
+serve_served_by false plans options (ended.BadInput bad) before after p writes faults = absurd p
+serve_served_by false plans options (ended.Refused why) before after p writes faults = absurd p
+serve_served_by true plans options ended.Usage before after p writes faults = absurd p
+serve_served_by true plans options ended.ReadFault before after p writes faults = absurd p
+serve_served_by true plans options ended.WriteFault before after p writes faults =
+    absurd (writes p.0)
+serve_served_by true plans options ended.NetFault before after p writes faults = absurd (faults p.0)
+serve_served_by true plans options (ended.BadInput bad) before after p writes faults = absurd p
+serve_served_by true plans options (ended.Refused why) before after p writes faults = absurd p
+
 pub serve_served : (plans : Plans) (options : ServeOptions) (how : Ended)
     (before after : Devices) →
     ServePromise plans options how before after → ¬ Rose before.write_faults after.write_faults →
     ¬ Rose before.counts.faults after.counts.faults →
     ((how ≡ ended.Done) ⊎ ((n : ℕ) × (how ≡ ended.Budget n))) ⊎ (how ≡ ended.NoMemory)
-serve_served plans options ended.Done before after p writes faults = inl (inl refl)
-serve_served plans options ended.NoMemory before after p writes faults = inr refl
-serve_served plans options ended.Usage before after p writes faults = absurd p
-serve_served plans options ended.ReadFault before after p writes faults = absurd p
-serve_served plans options ended.WriteFault before after p writes faults = absurd (writes p.0)
-serve_served plans options ended.NetFault before after p writes faults = absurd (faults p.0)
-serve_served plans options (ended.BadInput bad) before after p writes faults = absurd p
-serve_served plans options (ended.Budget n) before after p writes faults = inl (inr (n, refl))
-serve_served plans options (ended.Refused why) before after p writes faults = absurd p
+serve_served plans options = serve_served_by options.capture plans options

@@ -2,6 +2,8 @@ pub mod ReplayText
 pub mod Replaying
 pub mod ReplayPromise
 pub mod ServePromise
+pub mod RecordPromise
+pub mod Recording
 pub mod BotPromise
 pub mod BotReading
 pub mod CapturePromise

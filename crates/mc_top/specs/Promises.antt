@@ -21,7 +21,7 @@ use Rattle.mc_top.specs.BotPromise.{BotPromise, bot_fault}
 use Rattle.mc_top.specs.CapturePromise.{CapturePromise, IsCaptureFault, shown, viewed}
 use Rattle.mc_top.specs.LoadPromise.{LoadPromise}
 use Rattle.mc_top.specs.ReplayPromise.{Plays, replay_told, start_of}
-use Rattle.mc_top.specs.ServePromise.{ServePromise}
+use Rattle.mc_top.specs.RecordPromise.{ServePromise}
 
 -- the devices that are not a command's own are not touched
 abbrev pub Leaves : Command → Devices → Devices → Type 0

@@ -1,4 +1,4 @@
--- What `serve` promises, by how it ends. Rules of this project.
+-- What `serve` promises where it sums up what it served, by how it ends. Rules of this project.
 use Rattle.std.specs.Prelude.{◌≡◌, ℕ, ◌⊎◌, List, ◌++◌, take, Option, Result, Ok, Err, codes}
 use Rattle.std.specs.Prelude.{decimal}
 use Rattle.mc_wire.specs.Becoming.{ToldBecomes}
@@ -108,22 +108,22 @@ abbrev pub HasServedPart : Plans → ServeOptions → Option LobbyTold → Optio
 HasServedPart plans options old new = ToldBecomes old new (with_pace options.pace)
     ⊎ ((result : Result drives.Ended DriveFault) × HasServed plans options old new result)
 
--- what holds where `serve` ended so
-abbrev pub ServePromise : Plans → ServeOptions → Ended → Devices → Devices → Type 0
-ServePromise plans options ended.Done before after =
+-- what holds where it ended so
+abbrev pub Sums : Plans → ServeOptions → Ended → Devices → Devices → Type 0
+Sums plans options ended.Done before after =
     Summed plans options before.told after.told before.held after.held
-ServePromise plans options ended.NoMemory before after =
+Sums plans options ended.NoMemory before after =
     HasServedPart plans options before.told after.told × (after.held ≡ before.held)
-ServePromise plans options ended.Usage before after = ⊥
-ServePromise plans options ended.ReadFault before after = ⊥
-ServePromise plans options ended.WriteFault before after =
+Sums plans options ended.Usage before after = ⊥
+Sums plans options ended.ReadFault before after = ⊥
+Sums plans options ended.WriteFault before after =
     Rose before.write_faults after.write_faults
     × SummedPart plans options before.told after.told before.held after.held
-ServePromise plans options ended.NetFault before after =
+Sums plans options ended.NetFault before after =
     Rose before.counts.faults after.counts.faults × HasLost plans options before.told after.told
     × WroteLast before.held after.held before.write_faults after.write_faults net_fault_line
-ServePromise plans options (ended.BadInput bad) before after = ⊥
-ServePromise plans options (ended.Budget n) before after =
+Sums plans options (ended.BadInput bad) before after = ⊥
+Sums plans options (ended.Budget n) before after =
     HasSpent plans options n before.told after.told
     × WroteLast before.held after.held before.write_faults after.write_faults (budget_line n)
-ServePromise plans options (ended.Refused why) before after = ⊥
+Sums plans options (ended.Refused why) before after = ⊥

@@ -35,7 +35,7 @@ fn status<I: Source, O: Sink>(alloc: Global, most: u32, input: &mut I, out: &mut
     Ended::told(write_status(alloc, most, &text, out))
 }
 
-/// Does what a command asks, and writes its last line.
+/// Does what a command asks, and writes its last line, where it has one.
 fn perform<L: Lobby, K: Link, I: Source, O: Sink, M: Mind>(
     alloc: Global,
     command: Command,
@@ -60,7 +60,7 @@ fn perform<L: Lobby, K: Link, I: Source, O: Sink, M: Mind>(
             status(alloc, most, input, out)
         }
         Command::Replay(options) => replay(alloc, options, input, out, minds),
-        Command::Serve(options) => serve(alloc, options, lobby, out, minds),
+        Command::Serve(options) => return serve(alloc, options, lobby, out, minds),
         Command::Bot(options) => {
             drop(minds);
             bot(alloc, options, link, input, out)

@@ -11,6 +11,7 @@ mod captures;
 mod command;
 mod laws;
 mod load;
+mod record;
 mod replay;
 mod replay_lines;
 mod serve;

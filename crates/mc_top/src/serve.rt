@@ -2,21 +2,24 @@ ghost use Rattle.std.specs.Prelude.{◌≡◌, ℕ, IfOk, OnOk, IsErrOf, map, st
 ghost use Rattle.mc_wire.specs.Count.{Rose};
 ghost use Rattle.mc_wire.specs.Stream.{Grows};
 ghost use Rattle.mc_words.specs.Arguments.{CanServe};
+ghost use Rattle.mc_words.specs.Devices.{LinkDevice, devices};
+ghost use Rattle.mc_top.specs.RecordPromise.{ServePromise};
 ghost use Rattle.mc_top.specs.ServePromise.{EndsServing, HasLost, HasServedPart, HasSpent, Summed};
 ghost use Rattle.mc_top.specs.ServePromise.{SummedPart, budget_of, ended_by, summary_line};
 ghost use Rattle.mc_top.specs.ServePromise.{tally_of};
 
+use crate::record::record;
 use crate::world::new_server;
 use mc_bytes::NoMemory;
 use mc_entities::Mind;
 use mc_server::{Budget, DriveFault, Tally, drive};
 use mc_text::Unfinished;
 use mc_wire::{Lobby, Sink, write_all};
-use mc_words::{Ended, ServeOptions};
+use mc_words::{Ended, ServeOptions, finish};
 use std::alloc::Global;
 
 /// How long a lobby is served, and on which port it is to listen.
-fn budget_of(options: ServeOptions) -> Budget
+pub fn budget_of(options: ServeOptions) -> Budget
     ensures { result ≡ budget_of options }
 {
     Budget {
@@ -37,7 +40,7 @@ fn tally_of(end: mc_server::Ended) -> Tally
 }
 
 /// How the command ends where serving ended so.
-fn ended_by(fault: DriveFault) -> Ended
+pub fn ended_by(fault: DriveFault) -> Ended
     ensures { result ≡ ended_by fault }
 {
     match fault {
@@ -74,9 +77,8 @@ fn put_summary<O: Sink>(
     Ok(())
 }
 
-/// The command `serve`: it tells the lobby the pace, serves it with a server of a new world, and
-/// sums that up.
-pub fn serve<L: Lobby, O: Sink, M: Mind>(
+/// Tells the lobby the pace, serves it with a server of a new world, and sums that up.
+fn serve_summed<L: Lobby, O: Sink, M: Mind>(
     alloc: Global,
     options: ServeOptions,
     lobby: &mut L,
@@ -120,4 +122,28 @@ pub fn serve<L: Lobby, O: Sink, M: Mind>(
         Err(Unfinished::Failed) => Ended::WriteFault,
         Err(Unfinished::NoMemory) => Ended::NoMemory,
     }
+}
+
+/// The command `serve`: it tells the lobby the pace, serves it with a server of a new world, and
+/// writes a line that sums that up, or a capture of all that happened.
+pub fn serve<L: Lobby, O: Sink, M: Mind>(
+    alloc: Global,
+    options: ServeOptions,
+    lobby: &mut L,
+    out: &mut O,
+    minds: Vec<M>,
+) -> Ended
+    requires { CanServe options }
+    ensures { (link : LinkDevice) (left : Option (List ℕ)) (reads : ℕ) →
+        ServePromise (map (λ mind. M.plan mind) minds.items) options result
+        (devices (L.told lobby.old) (L.counts lobby.old) link left reads
+        (O.held out.old) (O.faults out.old))
+        (devices (L.told lobby.new) (L.counts lobby.new) link left reads
+        (O.held out.new) (O.faults out.new)) }
+{
+    if options.capture {
+        return record(alloc, options, lobby, out, minds);
+    }
+    let ended = serve_summed(alloc, options, lobby, out, minds);
+    finish(alloc, ended, out)
 }
