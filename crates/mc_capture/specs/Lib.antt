@@ -1,4 +1,6 @@
 pub mod Grammar
+pub mod Tape
+pub mod TapedView
 pub mod Reading
 pub mod ReadingLaws
 pub mod Headings
