@@ -8,7 +8,6 @@ use Rattle.mc_wire.specs.declared.log.LogEntry.TheVariants.{Joined, Came, Left, 
 use Rattle.mc_wire.specs.declared.log.LogEntry.TheVariants.{Stalled, Broke, Closed}
 use Rattle.mc_wire.specs.Count.{Rose, StandsOrRises, raised}
 use Rattle.mc_wire.specs.Stream.{Grows}
-use Rattle.mc_wire.specs.LobbyTold.{LobbyTold}
 use Rattle.mc_wire.specs.LobbyCounts.{LobbyCounts}
 use Rattle.mc_capture.specs.declared.tape_state.TapeState.{TapeState}
 use Rattle.mc_capture.specs.declared.tape_state.TapeState.TheVariants as states
@@ -50,6 +49,7 @@ WritesFrom states.Failed states.Failed old new bytes =
 WritesFrom states.Failed other old new bytes = ⊥
 WritesFrom before states.Failed old new bytes =
     ((n : ℕ) × Grows old.held new.held (take n bytes)) × Rose old.faults new.faults
+    × StandsOrRises old.faults new.faults
 WritesFrom before states.Written old new bytes =
     Grows old.held new.held bytes × StandsOrRises old.faults new.faults
 WritesFrom states.Blank states.Blank old new bytes =
@@ -76,28 +76,3 @@ counts_with own counts = record {
   stalls = min counts.stalls (2 ^ 64 - 1);
   breaks = min counts.breaks (2 ^ 64 - 1);
 }
-
--- ---- all calls since a start
-
--- what was added to a log
-abbrev pub added : LobbyTold → LobbyTold → List LogEntry
-added first now = drop (length first.log) now.log
-
--- so much of a tape is written in this state, of which so many bytes are there
-abbrev pub written : TapeState → List LogEntry → ℕ → List ℕ
-written states.Blank log count = []
-written states.Written log count = tape log
-written states.Failed log count = take count (tape log)
-
--- Where the lobby and the sink still tell theirs: the log was added to, from the first call of
--- `listen` on, and the sink got its tape, or a first part of it where it failed.
-abbrev pub IsTape : Option LobbyTold → Option LobbyTold → Option (List ℕ) → TapeMark → Type 0
-IsTape first told held now = (a b : LobbyTold) (xs ys : List ℕ) → first ≡ Some a → told ≡ Some b →
-    held ≡ Some xs → now.held ≡ Some ys → (b.log ≡ a.log ++ added a b)
-    × (now.state ≡ states.Blank → added a b ≡ [])
-    × (ys ≡ xs ++ written now.state (added a b) (length ys - length xs))
-
--- a sink's count of faults since then
-abbrev pub FaultsSince : TapeState → ℕ → ℕ → Type 0
-FaultsSince states.Failed first now = Rose first now
-FaultsSince other first now = StandsOrRises first now

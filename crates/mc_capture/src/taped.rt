@@ -227,8 +227,8 @@ impl<'a, L: Lobby, O: Sink> Lobby for Taped<'a, L, O> {
         // The event's record is written; a call after the sink failed is not passed on.
         ensures writes { IfOk result (λ event. Writes (mark_of O.held O.faults self.old)
             (mark_of O.held O.faults self.new) (entry_bytes (event_entry event buf.new))) }
-        ensures unwritten { OnErr result (self.new.out ≡ self.old.out) }
-        ensures as_it_was { OnErr result (self.new.state ≡ self.old.state) }
+        ensures unwritten { OnErr result ((self.new.out ≡ self.old.out)
+            × (self.new.state ≡ self.old.state)) }
         ensures after_fault { self.old.state ≡ TapeState.Failed →
             IsErr result × (self.new.lobby ≡ self.old.lobby) }
         ensures cause { OnErr result ((self.old.state ≡ TapeState.Failed) ⊎ Rose
