@@ -7,3 +7,4 @@ mod Underway
 mod Hex
 mod FrameSteps
 mod ViewSteps
+mod Tapes

@@ -1,4 +1,7 @@
 pub mod Grammar
+pub mod Tape
+pub mod TapedView
+pub mod TapeStart
 pub mod Reading
 pub mod ReadingLaws
 pub mod Headings

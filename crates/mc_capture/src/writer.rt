@@ -1,7 +1,9 @@
-ghost use Rattle.std.specs.Prelude.{◌≡◌, ℕ, length, take, OnOk, OnErr, IfErr};
+ghost use Rattle.std.specs.Prelude.{◌≡◌, ◌<◌, ◌≤◌, ℕ, length, take, OnOk, OnErr, IfErr};
 ghost use Rattle.mc_wire.specs.Count.{Rose, NeverFalls};
 ghost use Rattle.mc_wire.specs.Stream.{Grows};
-ghost use Rattle.mc_capture.specs.Grammar.{IsRecord, capture_head, record_bytes};
+ghost use Rattle.mc_capture.specs.Grammar.{IsRecord, capture_head, most_bytes, record_bytes};
+ghost use Rattle.mc_capture.specs.Tape.{bytes_of};
+ghost use Rattle.mc_capture.specs.declared.record.TheConstants.{KINDS};
 ghost use Rattle.mc_capture.specs.declared.fault.CaptureEnd.TheVariants as ends;
 
 use crate::heading::{Heading, heading_bytes};
@@ -74,10 +76,28 @@ fn write_record<O: Sink>(rec: &Record, out: &mut O) -> Result<(), Failed>
     ensures failed { OnErr result (Rose (O.faults out.old) (O.faults out.new)) }
     ensures counts { NeverFalls (O.faults out.old) (O.faults out.new) }
 {
-    let bytes = rec.bytes.as_slice();
+    write_parts(rec.kind, rec.connection, rec.bytes.as_slice(), out)
+}
+
+/// Writes a record that carries these bytes into a sink.
+pub(crate) fn write_parts<O: Sink>(
+    kind: u8,
+    connection: u32,
+    bytes: &[u8],
+    out: &mut O,
+) -> Result<(), Failed>
+    requires kind { kind < KINDS }
+    requires size { length bytes.now ≤ most_bytes kind }
+    ensures whole { OnOk result
+        (Grows (O.held out.old) (O.held out.new) (bytes_of kind connection bytes.now)) }
+    ensures part { OnErr result ((n : ℕ) ×
+        Grows (O.held out.old) (O.held out.new) (take n (bytes_of kind connection bytes.now))) }
+    ensures failed { OnErr result (Rose (O.faults out.old) (O.faults out.new)) }
+    ensures counts { NeverFalls (O.faults out.old) (O.faults out.new) }
+{
     let front = heading_bytes(Heading {
-        kind: rec.kind,
-        connection: rec.connection,
+        kind,
+        connection,
         size: bytes.len() as u32,
     });
     write_all(out, &front)?;
