@@ -1,6 +1,0 @@
-mod Taken
-mod Takings
-mod Owed
-mod Played
-mod Counts
-mod Keeps

@@ -1,3 +1,0 @@
-mod Packets
-mod Ways
-mod Records

@@ -1,4 +1,0 @@
-pub mod PlayPackets
-pub mod ShowText
-pub mod Following
-pub mod Shown
