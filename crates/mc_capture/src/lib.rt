@@ -23,7 +23,9 @@ mod viewing;
 mod writer;
 
 pub use fault::{CaptureEnd, CaptureFault, CaptureKind};
+pub use packets::turn_of;
 pub use reader::Reader;
 pub use record::{BYTES_MAX, HEAD, KINDS, Record};
+pub use states::{State, States, Turn, Way};
 pub use viewing::view;
 pub use writer::Writer;

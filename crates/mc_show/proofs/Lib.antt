@@ -1,0 +1,3 @@
+mod Packets
+mod Ways
+mod Records
