@@ -1,6 +1,6 @@
 -- The packets of play of bytes that are heard one after another are those of the frames.
 use Rattle.std.proofs.Common.{◌≡◌, ℕ, ◌<◌, List, [], ◌∷◌, ◌++◌, length, refl, sym}
-use Rattle.std.proofs.Common.{ap, ◌∙◌, append_assoc, arith, Option, Some, None}
+use Rattle.std.proofs.Common.{ap, ◌∙◌, append_assoc, arith, Option, Some, None, Ok, Err}
 use Rattle.std.proofs.lemmas.List.{append-nil}
 use Rattle.mc_bytes.specs.Reading.{Field}
 use Rattle.mc_frame.specs.declared.fault.FrameFault.{FrameFault}

@@ -154,22 +154,3 @@ piece_brings way states held fed rest n now next world half world' part is a b =
     subst P (take-append-drop n rest)
     (brings_two way (heard_from states held) now next (take n rest) (drop n rest) world half world'
     (behind_brings way states held (take n rest) now world half part (subst Q is a)) b)
-
--- ---- a frame of play
-
-by_turn : (k : ℕ) (states : States) (frame : List ℕ) (goes : Bool)
-    → (on_turn k ToClient states frame (turn_where goes)).1 ≡ goes_on goes states []
-by_turn k states frame true = refl
-by_turn k states frame false = refl
-
-pub play_brings : (states : States) (frame : List ℕ) (goes : Bool) (world world' : Replica)
-    → states.down ≡ Play
-    → turn_of ToClient Play frame ≡ turn_where goes
-    → world' ≡ replay world (frame_packets ToClient Play frame)
-    → FrameBrings ToClient states frame (goes_on goes states []) world world'
-play_brings states frame goes world world' down turns shows = record {
-  heard = λ k. ap (λ (t : Option Turn). (on_turn k ToClient states frame t).1)
-      (ap (λ (s : State). turn_of ToClient s frame) down ∙ turns)
-      ∙ by_turn k states frame goes;
-  shows = shows ∙ ap (λ (s : State). replay world (frame_packets ToClient s frame)) (sym down);
-}

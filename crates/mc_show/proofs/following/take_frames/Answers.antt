@@ -7,10 +7,10 @@ use Rattle.mc_show.proofs.Ways.{fault_brings, frame_brings, part_brings, silent_
 use Rattle.mc_show.proofs.following.take_frames.Goals as goal
 
 pub taking-init : goal.taking-init
-taking-init g c = record { brings = λ next world b. b; fine = c.requires }
+taking-init c = record { brings = λ next world b. b; fine = c.requires }
 
 pub taking-preserved : goal.taking-preserved
-taking-preserved g c =
+taking-preserved c =
     let P : Bool → Type 0 = λ goes. FrameBrings c.args.way c.taking.states c.in-Frame.frame.now
     (goes_on goes c.take_frame.new.states []) c.taking.world c.take_frame.new.world in
     let one = subst P c.if-not-goes.false c.in_ok-goes-in-Frame.ensures in
@@ -23,11 +23,11 @@ taking-preserved g c =
     })
 
 pub taking-smaller : goal.taking-smaller
-taking-smaller g c = rw c.pass.ensures.is (frame_shorter c.in-Frame.frame.now
+taking-smaller c = rw c.pass.ensures.is (frame_shorter c.in-Frame.frame.now
     c.taking.splitter.held c.in-Frame.len c.in-Frame.ensures.spelled)
 
 pub returns-then-not-goes-clause-brings : goal.returns-then-not-goes-clause-brings
-returns-then-not-goes-clause-brings g c =
+returns-then-not-goes-clause-brings c =
     let P : Bool → Type 0 = λ goes. FrameBrings c.args.way c.taking.states c.in-Frame.frame.now
     (goes_on goes c.take_frame.new.states []) c.taking.world c.take_frame.new.world in
     let one = subst P c.if-not-goes.true c.in_ok-goes-in-Frame.ensures in
@@ -39,13 +39,13 @@ returns-then-not-goes-clause-brings g c =
     (silent_brings c.args.way c.take_frame.new.states _ c.take_frame.new.world))
 
 pub returns-in-More-clause-brings : goal.returns-in-More-clause-brings
-returns-in-More-clause-brings g c =
+returns-in-More-clause-brings c =
     c.taking.invariant.brings (heard_from c.taking.states c.taking.splitter.held) c.taking.world
     (part_brings c.args.way c.taking.states c.taking.splitter.held c.taking.world
     c.in-More.ensures.0)
 
 pub returns-in-Bad-clause-brings : goal.returns-in-Bad-clause-brings
-returns-in-Bad-clause-brings g c =
+returns-in-Bad-clause-brings c =
     c.taking.invariant.brings (goes_on false c.taking.states []) c.taking.world
     (fault_brings c.args.way c.taking.states _ c.taking.splitter.held _ c.taking.world
     c.in-Bad.ensures)

@@ -7,7 +7,7 @@ use Rattle.mc_show.proofs.following.take_frames.Given as goal
 
 -- what is held now brings the way to what all that was held does
 abbrev pub invariant-taking : goal.invariant-taking
-invariant-taking g l = record {
+invariant-taking l = record {
   brings : (next : Hearing) (world : Replica) →
       Brings l.way (from_front l.states) l.splitter.held next l.world world →
       Brings l.way (from_front l.fn.states) l.fn.splitter.held next l.fn.world world;
@@ -15,4 +15,4 @@ invariant-taking g l = record {
 }
 
 abbrev pub decreases-taking : goal.decreases-taking
-decreases-taking g l = length l.splitter.held
+decreases-taking l = length l.splitter.held

@@ -7,15 +7,15 @@ use Rattle.mc_show.proofs.Ways.{over_brings, piece_brings, silent_brings}
 use Rattle.mc_show.proofs.following.take_piece.Goals as goal
 
 pub loop-rest-init : goal.loop-rest-init
-loop-rest-init g c = record { brings = λ next world b. b; waiting = c.requires }
+loop-rest-init c = record { brings = λ next world b. b; waiting = c.requires }
 
 pub take_frames-requires : goal.take_frames-requires
-take_frames-requires g c =
+take_frames-requires c =
     ap (λ (s : Splitting). s.fault) c.in_ok-count.ensures.fed.held
     ∙ c.loop-rest.invariant.waiting.fine
 
 pub loop-rest-preserved : goal.loop-rest-preserved
-loop-rest-preserved g c =
+loop-rest-preserved c =
     let e = c.in_ok-goes.ensures in
     let fed = c.feed.new.self in
     let P : Bool → Type 0 = λ goes. Brings c.args.way (from_front c.loop-rest.states) fed.held
@@ -33,7 +33,7 @@ loop-rest-preserved g c =
     })
 
 pub loop-rest-smaller : goal.loop-rest-smaller
-loop-rest-smaller g c =
+loop-rest-smaller c =
     let some : 0 < length c.loop-rest.rest.now = search rules in
     let more = c.in_ok-count.ensures.some c.loop-rest.invariant.waiting.part
     c.loop-rest.invariant.waiting.fine some in
@@ -41,7 +41,7 @@ loop-rest-smaller g c =
     (omega (arith, some, more, length-drop c.in_ok-count.count c.loop-rest.rest.now))
 
 pub returns-then-not-goes-clause-brings : goal.returns-then-not-goes-clause-brings
-returns-then-not-goes-clause-brings g c =
+returns-then-not-goes-clause-brings c =
     let fed = c.feed.new.self in
     let P : Bool → Type 0 = λ goes. Brings c.args.way (from_front c.loop-rest.states) fed.held
     (goes_on goes c.take_frames.new.states c.take_frames.new.splitter.held) c.loop-rest.world
@@ -56,7 +56,7 @@ returns-then-not-goes-clause-brings g c =
     (silent_brings c.args.way c.take_frames.new.states _ c.take_frames.new.world))
 
 pub returns-clause-brings : goal.returns-clause-brings
-returns-clause-brings g c =
+returns-clause-brings c =
     let none : length c.loop-rest.rest.now ≡ 0 = search rules in
     let now = heard_from c.loop-rest.states c.loop-rest.splitter.held in
     c.loop-rest.invariant.brings now c.loop-rest.world
