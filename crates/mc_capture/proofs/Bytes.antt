@@ -44,7 +44,7 @@ stays_silent k way states (b ∷ bytes) = stays_silent k way states bytes
 
 -- ---- up to where reading gives something
 
-byte_waits : (k : ℕ) (way : Way) (states : States) (bytes : List ℕ) (b : ℕ)
+pub byte_waits : (k : ℕ) (way : Way) (states : States) (bytes : List ℕ) (b : ℕ)
     → WaitsAt (bytes ++ b ∷ [])
     → on_byte k way states (Some bytes) b ≡ ([], heard_from states (bytes ++ b ∷ []))
 byte_waits k way states bytes b w =
@@ -67,7 +67,7 @@ heard_through k way states p b (c ∷ q) waits =
     (λ front back parts some. waits front back (sym regroup ∙ parts) some)
     ∙ ap (λ (t : List ℕ). on_read k way states t (frame_read t)) regroup
 
-from_first : (k : ℕ) (way : Way) (states : States) (bytes : List ℕ)
+pub from_first : (k : ℕ) (way : Way) (states : States) (bytes : List ℕ)
     → 0 < length bytes
     → WaitsBefore bytes
     → on_bytes k way (from_front states) bytes ≡ on_read k way states bytes (frame_read bytes)

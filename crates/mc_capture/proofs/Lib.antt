@@ -1,10 +1,10 @@
 mod Lists
 mod Faults
 mod Gatherings
-mod Fronts
-mod Bytes
+pub mod Fronts
+pub mod Bytes
 mod Underway
 mod Hex
 mod FrameSteps
-mod ViewSteps
+pub mod ViewSteps
 mod Tapes

@@ -35,7 +35,7 @@ use Rattle.mc_capture.proofs.Gatherings.{gathers_two, part_here, part_two}
 
 -- ---- one record more
 
-talk_one_more : (k : ℕ) (talk : Talk) (records : List Record) (r : Record)
+pub talk_one_more : (k : ℕ) (talk : Talk) (records : List Record) (r : Record)
     → talk_behind k talk (records ++ r ∷ [])
     ≡ (if r.connection == k then after_record (talk_behind k talk records) r
     else talk_behind k talk records)
@@ -114,7 +114,7 @@ viewing_first old left held waits talks head none new =
       gathers = record { out = []; wrote = Grows-refl held; parts = view_none ∙ sym none };
     }
 
-begins_next : (old left new : Option (List ℕ)) (records : List Record) (r : Record)
+pub begins_next : (old left new : Option (List ℕ)) (records : List Record) (r : Record)
     → Begins old left records → IsRecord r → IsNumbered r → Consumes left new (record_bytes r)
     → Begins old new (records ++ r ∷ [])
 begins_next old left new records r b one numbered consumed =
@@ -128,7 +128,7 @@ begins_next old left new records r b one numbered consumed =
           b.consumed consumed);
     }
 
-place_next : (at next : ℕ) (records : List Record) (r : Record)
+pub place_next : (at next : ℕ) (records : List Record) (r : Record)
     → at ≡ kept_place (end_of records)
     → next ≡ kept_place (at + length (record_bytes r))
     → next ≡ kept_place (end_of (records ++ r ∷ []))
@@ -181,7 +181,7 @@ pub viewing_ends : (old left new held held' : Option (List ℕ)) (waits : List �
 viewing_ends old left new held held' waits at talks v ends =
     record { records = v.records; reads = headed left v.begins ends; gathers = v.gathers }
 
-wrong_there : (fault : CaptureFault) (at place : ℕ) (left new : Option (List ℕ))
+pub wrong_there : (fault : CaptureFault) (at place : ℕ) (left new : Option (List ℕ))
     → at ≡ kept_place place → FindsWrong fault at left new → FindsWrong fault place left new
 wrong_there fault at place left new is w = record {
   bytes = w.bytes;
@@ -363,7 +363,7 @@ head_ends ends.Read old new held waits was is out none e = e
 head_ends ends.Write old new held waits was is out none e = absurd e
 head_ends ends.NoMemory old new held waits was is out none e = absurd e
 
-rose_later : (a b c : ℕ) → StandsOrRises a b → Rose b c → Rose a c
+pub rose_later : (a b c : ℕ) → StandsOrRises a b → Rose b c → Rose a c
 rose_later a b c (inl same) rose = let P : ℕ → Type 0 = λ n. Rose n c in subst P same rose
 rose_later a b c (inr never) (inl less) = inl (omega (arith, never.0, less))
 rose_later a b c (inr never) (inr top) = inr top

@@ -26,8 +26,10 @@ mod viewing;
 mod writer;
 
 pub use fault::{CaptureEnd, CaptureFault, CaptureKind};
+pub use packets::turn_of;
 pub use reader::Reader;
 pub use record::{BYTES_MAX, HEAD, KINDS, Record};
+pub use states::{State, States, Turn, Way};
 pub use tape_state::TapeState;
 pub use taped::Taped;
 pub use taped_since::{Started, TapedSince};

@@ -18,7 +18,7 @@ use std::alloc::Global;
 /// What a frame changes of how far its connection has come, by its way and the state that this has
 /// come to. None where it is no packet of that state.
 #[tactic(auto, unfolding(crate::specs::Frames::turn_of))]
-pub(crate) fn turn_of(
+pub fn turn_of(
     alloc: Global,
     way: Way,
     state: State,

@@ -3,7 +3,7 @@ ghost use Rattle.mc_capture.specs.Frames.{state_of, turned, wanted_state};
 
 /// One of the two ways of a connection.
 #[derive(Clone, Copy)]
-pub(crate) enum Way {
+pub enum Way {
     /// What the client sends.
     Up,
     /// What the client takes.
@@ -12,7 +12,7 @@ pub(crate) enum Way {
 
 /// How far one way of a connection has come: of which packets its next frame is one.
 #[derive(Clone, Copy)]
-pub(crate) enum State {
+pub enum State {
     /// Nothing was said.
     Hand,
     /// The client asks for the status.
@@ -25,16 +25,16 @@ pub(crate) enum State {
 
 /// How far both ways of a connection have come.
 #[derive(Clone, Copy)]
-pub(crate) struct States {
+pub struct States {
     /// The way of what the client sends.
-    pub(crate) up: State,
+    pub up: State,
     /// The way of what the client takes.
-    pub(crate) down: State,
+    pub down: State,
 }
 
 /// What a packet changes of how far the ways of its connection have come.
 #[derive(Clone, Copy)]
-pub(crate) enum Turn {
+pub enum Turn {
     /// Nothing.
     Stays,
     /// Both ways come to a state.
@@ -56,7 +56,7 @@ pub(crate) fn wanted_state(next: i32) -> State
 
 impl States {
     /// How far one way has come.
-    pub(crate) fn of(&self, way: Way) -> State
+    pub fn of(&self, way: Way) -> State
         ensures { result ≡ state_of way self.now }
     {
         match way {
@@ -66,7 +66,7 @@ impl States {
     }
 
     /// How far both have come after a packet of one way.
-    pub(crate) fn turned(&self, turn: Turn, way: Way) -> States
+    pub fn turned(&self, turn: Turn, way: Way) -> States
         ensures { result ≡ turned turn way self.now }
     {
         match turn {

@@ -1,9 +1,10 @@
 //! A table of rows: each names a call on a capture and what it is given, and is repeated with what
-//! the call answers. It stands on `mc_capture`.
+//! the call answers. It stands on `mc_capture` and `mc_show`.
 //!
 //! It has no contract of its own: the table that it is run on says what each row answers.
 #![tactic(auto)]
 
+mod shows;
 mod views;
 
 use mc_rows::{Answer, Words};
@@ -16,6 +17,7 @@ fn answered(alloc: Global, row: &str) -> Answer {
     let mut answer = Answer::new(alloc);
     let mut words = Words::new(alloc, row);
     match words.word() {
+        "show" => shows::show_row(&mut words, &mut answer),
         "view" => views::view_row(&mut words, &mut answer),
         _ => words.fail(),
     }

@@ -21,7 +21,7 @@ pub fn view_row(words: &mut Words<'_>, answer: &mut Answer) {
 }
 
 /// The call that fails, where the row names one.
-fn fails(name: &str, words: &mut Words<'_>, answer: &mut Answer) -> Vec<u64> {
+pub fn fails(name: &str, words: &mut Words<'_>, answer: &mut Answer) -> Vec<u64> {
     let mut calls = Vec::new(words.alloc);
     if words.is_next(name) {
         answer.needs(calls.push(words.number()));
@@ -29,8 +29,8 @@ fn fails(name: &str, words: &mut Words<'_>, answer: &mut Answer) -> Vec<u64> {
     calls
 }
 
-/// Puts how a view ended.
-fn put_end(shown: Result<(), CaptureEnd>, answer: &mut Answer) {
+/// Puts how it ended.
+pub fn put_end(shown: Result<(), CaptureEnd>, answer: &mut Answer) {
     match shown {
         Ok(()) => answer.word("ok"),
         Err(CaptureEnd::Bad(fault)) => {

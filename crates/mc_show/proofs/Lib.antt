@@ -1,0 +1,4 @@
+mod Packets
+mod Ways
+mod Records
+mod Chunks

@@ -1,0 +1,4 @@
+pub mod PlayPackets
+pub mod ShowText
+pub mod Following
+pub mod Shown
