@@ -13,7 +13,7 @@ pub mod Serves
 pub mod ServeKept
 pub mod BotPlays
 pub mod BotKept
-pub mod Captures
+pub mod CaptureKept
 pub mod Recordings
 pub mod Loads
 pub mod Runs

@@ -1,5 +1,5 @@
 -- Inputs that are served and refused, whatever the command.
-use Rattle.std.proofs.Common.{◌≡◌, ◌⊎◌, List}
+use Rattle.std.proofs.Common.{◌≡◌, ◌⊎◌, List, Some}
 use Rattle.mc_wire.specs.Count.{Rose}
 use Rattle.mc_model.specs.Minds.{Plans}
 use Rattle.mc_words.specs.declared.arguments.Command.{Command}
@@ -12,17 +12,17 @@ use Rattle.mc_words.specs.Devices.{Devices, streams_of}
 use Rattle.mc_words.specs.Ended.{status_of}
 use Rattle.mc_status.specs.StatusText.{status_told}
 use Rattle.mc_words.proofs.Delivering.{bad_delivered, fine_delivered}
-use Rattle.mc_top.specs.Promises.{EndsFine, HasFault, IsFineInput, Promises, FaultOf}
+use Rattle.mc_top.specs.Promises.{EndsFine, FirstFault, IsFineInput, Promises}
 use Rattle.mc_top.specs.ReplayPromise.{replay_told, start_of}
 use Rattle.mc_top.specs.CapturePromise.{shown, viewed}
 use Rattle.mc_top.proofs.BotKept.{bot_refused, bot_served}
-use Rattle.mc_top.proofs.Captures.{capture_refused, capture_served}
+use Rattle.mc_top.proofs.CaptureKept.{capture_refused, capture_served}
 use Rattle.mc_top.proofs.Loads.{load_served}
 use Rattle.mc_top.proofs.ServeKept.{serve_served}
 
 module _ (plans : Plans) (how : Ended) (before after : Devices) where
   pub served : (command : Command) → Promises plans command how before after →
-      IsFineInput (FaultOf plans command) before.left →
+      IsFineInput plans command before.left →
       ¬ Rose before.read_faults after.read_faults →
       ¬ Rose before.write_faults after.write_faults →
       ¬ Rose before.counts.faults after.counts.faults →
@@ -45,7 +45,7 @@ module _ (plans : Plans) (how : Ended) (before after : Devices) where
       load_served options how before after p.1 writes
 
   pub refused : (bad : BadInput) (command : Command) → Promises plans command how before after →
-      HasFault (FaultOf plans command) bad before.left →
+      FirstFault plans command (Some bad) before.left →
       ¬ Rose before.read_faults after.read_faults →
       ¬ Rose before.write_faults after.write_faults → (status_of how ≡ 6) ⊎ (status_of how ≡ 1)
   refused bad (Status most) p wrong_ reads writes = bad_delivered (status_told most) how

@@ -53,6 +53,11 @@ ended_by_capture ends.Read = ended.ReadFault
 ended_by_capture ends.Write = ended.WriteFault
 ended_by_capture ends.NoMemory = ended.NoMemory
 
+-- a size that its fault tells has 32 bits, as its type has
+abbrev pub IsSizedEnd : CaptureEnd → Type 0
+IsSizedEnd (ends.Bad fault) = EndIsSized (Some fault)
+IsSizedEnd other = Unit {0}
+
 abbrev pub ended_by_read : Result (Unit {0}) CaptureEnd → Ended
 ended_by_read (Ok u) = ended.Done
 ended_by_read (Err end) = ended_by_capture end

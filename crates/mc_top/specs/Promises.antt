@@ -1,6 +1,6 @@
 -- What a run of the program promises, by the command that its arguments name and by how it ends.
--- Rules of this project. A new command is a case of `Leaves`, of `Does`, of `FaultOf` and of
--- `EndsFine`. `Does` and `FaultOf` take the plans of the minds that were handed in.
+-- Rules of this project. A new command is a case of `Leaves`, of `Does`, of `FirstFault` and
+-- of `EndsFine`. `Does` and `FirstFault` take the plans of the minds that were handed in.
 use Rattle.std.specs.Prelude.{◌≡◌, ℕ, ◌⊎◌, List, Option, None, Some}
 use Rattle.std.specs.declared.string.String.{String}
 use Rattle.mc_model.specs.Minds.{Plans}
@@ -57,27 +57,28 @@ abbrev pub Promises : Plans → Command → Ended → Devices → Devices → Ty
 Promises plans command how before after =
     Leaves command before after × Does plans command how before after
 
--- what the first fault of its input is, or that there is none; None where it reads no input
-abbrev pub FaultOf : Plans → Command → Option (List ℕ → Option BadInput → Type 0)
-FaultOf plans (Status most) = Some (λ input bad. (status_told most input).fault ≡ bad)
-FaultOf plans (Replay options) =
-    Some (λ input bad. (replay_told (start_of plans options) input).fault ≡ bad)
-FaultOf plans (Serve options) = None
-FaultOf plans (Bot options) = Some (λ input bad. bot_fault input ≡ bad)
-FaultOf plans View = Some IsCaptureFault
-FaultOf plans (Show client) = Some IsCaptureFault
-FaultOf plans (Load options) = None
-
--- a command reads no input, or what is left of it is told and nothing is wrong with that
-abbrev pub IsFineInput : Option (List ℕ → Option BadInput → Type 0) → Option (List ℕ) → Type 0
-IsFineInput (Some fault) left = (input : List ℕ) × (left ≡ Some input) × fault input None
-IsFineInput None left = Unit {0}
-
--- a command reads an input, which is told, and this is its first fault
-abbrev pub HasFault : Option (List ℕ → Option BadInput → Type 0) → BadInput → Option (List ℕ) →
+-- what is left of an input is told, and this is its first fault, or there is none
+abbrev pub HasFirst : (List ℕ → Option BadInput → Type 0) → Option BadInput → Option (List ℕ) →
     Type 0
-HasFault (Some fault) bad left = (input : List ℕ) × (left ≡ Some input) × fault input (Some bad)
-HasFault None bad left = ⊥
+HasFirst Fault bad left = (input : List ℕ) × (left ≡ Some input) × Fault input bad
+
+-- so it is with the input of a command, if it reads one
+abbrev pub FirstFault : Plans → Command → Option BadInput → Option (List ℕ) → Type 0
+FirstFault plans (Status most) bad left =
+    HasFirst (λ input bad. (status_told most input).fault ≡ bad) bad left
+FirstFault plans (Replay options) bad left =
+    HasFirst (λ input bad. (replay_told (start_of plans options) input).fault ≡ bad) bad left
+FirstFault plans (Serve options) bad left = ⊥
+FirstFault plans (Bot options) bad left = HasFirst (λ input bad. bot_fault input ≡ bad) bad left
+FirstFault plans View bad left = HasFirst IsCaptureFault bad left
+FirstFault plans (Show client) bad left = HasFirst IsCaptureFault bad left
+FirstFault plans (Load options) bad left = ⊥
+
+-- nothing is wrong with its input, or it reads none
+abbrev pub IsFineInput : Plans → Command → Option (List ℕ) → Type 0
+IsFineInput plans (Serve options) left = Unit {0}
+IsFineInput plans (Load options) left = Unit {0}
+IsFineInput plans command left = FirstFault plans command None left
 
 -- how a command ends where nothing is wrong with its input, no device fails and memory suffices
 abbrev pub EndsFine : Command → Ended → Type 0

@@ -1,7 +1,8 @@
-ghost use Rattle.std.specs.Prelude.{◌≡◌};
+ghost use Rattle.std.specs.Prelude.{◌≡◌, IfErr};
+ghost use Rattle.mc_capture.specs.OneTextLaws.{IsSized};
 ghost use Rattle.mc_words.specs.Devices.{streams};
 ghost use Rattle.mc_top.specs.CapturePromise.{CapturedText, bad_of, ended_by_read, kind_of};
-ghost use Rattle.mc_top.specs.CapturePromise.{shown, viewed};
+ghost use Rattle.mc_top.specs.CapturePromise.{IsSizedEnd, shown, viewed};
 
 use mc_capture::{CaptureEnd, CaptureFault, CaptureKind};
 use mc_wire::{Sink, Source};
@@ -10,7 +11,9 @@ use std::alloc::Global;
 
 /// What is wrong with a capture, as a fault of an input.
 fn kind_of(kind: CaptureKind) -> InputFault
-    ensures { result ≡ kind_of kind }
+    ensures is { result ≡ kind_of kind }
+    // A size has 32 bits.
+    ensures sized { IsSized kind }
 {
     match kind {
         CaptureKind::BadHead => InputFault::BadHead,
@@ -22,7 +25,8 @@ fn kind_of(kind: CaptureKind) -> InputFault
 
 /// The first fault of a capture, as that of an input.
 fn bad_of(fault: CaptureFault) -> BadInput
-    ensures { result ≡ bad_of fault }
+    ensures is { result ≡ bad_of fault }
+    ensures sized { IsSized fault.kind }
 {
     BadInput {
         at: fault.at,
@@ -32,7 +36,8 @@ fn bad_of(fault: CaptureFault) -> BadInput
 
 /// How a command ends where it read a capture so.
 fn ended_by_read(read: Result<(), CaptureEnd>) -> Ended
-    ensures { result ≡ ended_by_read read }
+    ensures is { result ≡ ended_by_read read }
+    ensures sized { IfErr read IsSizedEnd }
 {
     match read {
         Ok(()) => Ended::Done,

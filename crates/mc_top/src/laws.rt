@@ -1,4 +1,4 @@
-ghost use Rattle.std.specs.Prelude.{◌≡◌, ◌≤◌, ◌+◌, ◌⊎◌, ℕ, List, Ok, Err};
+ghost use Rattle.std.specs.Prelude.{◌≡◌, ◌≤◌, ◌+◌, ◌⊎◌, ℕ, List, Ok, Err, Some};
 ghost use Rattle.mc_wire.specs.Count.{Rose};
 ghost use Rattle.mc_model.specs.Minds.{Plans};
 ghost use Rattle.mc_words.specs.declared.bad_input.BadInput.{BadInput};
@@ -12,7 +12,7 @@ ghost use Rattle.mc_words.specs.declared.ended.Ended.TheVariants as ended;
 ghost use Rattle.mc_words.specs.declared.arguments.Command.{Command};
 ghost use Rattle.mc_words.specs.Devices.{Devices};
 ghost use Rattle.mc_words.specs.Ended.{status_of};
-ghost use Rattle.mc_top.specs.Promises.{EndsFine, HasFault, IsFineInput, Promises, FaultOf};
+ghost use Rattle.mc_top.specs.Promises.{EndsFine, FirstFault, IsFineInput, Promises};
 
 /// The line of a script that is too long is the one that holds the first byte too many.
 pub fn long_line_of_a_script()
@@ -33,7 +33,7 @@ pub fn ticks_of_a_script()
 pub fn good_inputs_are_served()
     ensures { (plans : Plans) (command : Command) (how : Ended)
         (before after : Devices) → Promises plans command how before after →
-        IsFineInput (FaultOf plans command) before.left →
+        IsFineInput plans command before.left →
         ¬ Rose before.read_faults after.read_faults →
         ¬ Rose before.write_faults after.write_faults →
         ¬ Rose before.counts.faults after.counts.faults →
@@ -46,7 +46,7 @@ pub fn good_inputs_are_served()
 pub fn bad_inputs_are_refused()
     ensures { (plans : Plans) (command : Command) (how : Ended)
         (before after : Devices) (bad : BadInput) → Promises plans command how before after →
-        HasFault (FaultOf plans command) bad before.left →
+        FirstFault plans command (Some bad) before.left →
         ¬ Rose before.read_faults after.read_faults →
         ¬ Rose before.write_faults after.write_faults → (status_of how ≡ 6) ⊎ (status_of how ≡ 1) }
 {}

@@ -23,6 +23,7 @@ use std::alloc::Global;
 use std::marker::Brand;
 
 /// How serving a lobby with a capture ended.
+#[derive(Drop)]
 struct Recorded {
     /// How serving ended.
     end: Result<mc_server::Ended, DriveFault>,
@@ -55,7 +56,7 @@ fn drive_taped<L: Lobby, O: Sink, M: Mind, S: Started>(
     requires port { 1 ≤ budget.port }
     requires ticks { (1 ≤ budget.ticks) × (budget.ticks ≤ 1000000000) }
     requires events { 1 ≤ budget.events }
-    requires start { S.start ≡ start_at lobby.entry.ghost_name out.entry.ghost_name
+    requires start { S.start ≡ start_at lobby.ghost_name out.ghost_name
         (L.told lobby.old) (L.counts lobby.old) (O.held out.old) (O.faults out.old) }
     requires small { (L.counts lobby.old).faults < 2 ^ 64 }
     ensures drove { (start : Start) → AreSettings start.settings.players start.settings.cap →

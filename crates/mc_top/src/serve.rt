@@ -1,4 +1,5 @@
-ghost use Rattle.std.specs.Prelude.{◌≡◌, ℕ, IfOk, OnOk, IsErrOf, map, string_bytes, take};
+ghost use Rattle.std.specs.Prelude.{◌≡◌, ℕ, List, Option, IfOk, OnOk, IsErrOf, map, string_bytes};
+ghost use Rattle.std.specs.Prelude.{take};
 ghost use Rattle.mc_wire.specs.Count.{Rose};
 ghost use Rattle.mc_wire.specs.Stream.{Grows};
 ghost use Rattle.mc_words.specs.Arguments.{CanServe};

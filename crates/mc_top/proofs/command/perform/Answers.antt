@@ -5,7 +5,7 @@ use Rattle.mc_top.specs.ReplayPromise.{replay_told}
 use Rattle.mc_top.proofs.Replays.{plays_on}
 use Rattle.mc_top.proofs.BotKept.{bot_kept}
 use Rattle.mc_top.specs.CapturePromise.{shown, viewed}
-use Rattle.mc_top.proofs.Captures.{capture_kept, shown_is_text, viewed_is_text}
+use Rattle.mc_top.proofs.CaptureKept.{capture_kept, shown_is_text, viewed_is_text}
 use Rattle.mc_top.proofs.Loads.{load_kept}
 use Rattle.mc_top.proofs.ServeKept.{serve_kept}
 use Rattle.mc_top.proofs.command.perform.Goals as goal

@@ -24,14 +24,9 @@ use Rattle.mc_words.specs.Finishing.{Finishes}
 use Rattle.mc_words.proofs.Delivering.{wrote_both}
 use Rattle.mc_top.specs.CapturePromise.{AreFirst, CapturePromise, CaptureText, CapturedText}
 use Rattle.mc_top.specs.CapturePromise.{IsCaptureFault, IsPart, bad_of, ended_by_read}
-use Rattle.mc_top.specs.CapturePromise.{shown, viewed}
+use Rattle.mc_top.specs.CapturePromise.{IsSizedEnd, shown, viewed}
 
 -- ---- before the last line
-
--- a size that a fault tells has 32 bits
-abbrev pub IsSizedEnd : CaptureEnd → Type 0
-IsSizedEnd (ends.Bad fault) = EndIsSized (Some fault)
-IsSizedEnd other = Unit {0}
 
 -- records that were read begin a capture
 first_read : (left left' : Option (List ℕ)) (records : List Record) (end : Option CaptureFault) →
