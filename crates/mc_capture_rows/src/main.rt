@@ -4,6 +4,7 @@
 //! It has no contract of its own: the table that it is run on says what each row answers.
 #![tactic(auto)]
 
+mod tapes;
 mod views;
 
 use mc_rows::{Answer, Words};
@@ -16,6 +17,7 @@ fn answered(alloc: Global, row: &str) -> Answer {
     let mut answer = Answer::new(alloc);
     let mut words = Words::new(alloc, row);
     match words.word() {
+        "taped" => tapes::taped_row(&mut words, &mut answer),
         "view" => views::view_row(&mut words, &mut answer),
         _ => words.fail(),
     }
