@@ -5,13 +5,18 @@
 //! with room for 70,000 bytes, `write K BYTES` or `close K`. What the sink holds follows, and whether
 //! it failed.
 
-ghost use Rattle.std.specs.Prelude.{◌≡◌, true};
+ghost use Rattle.std.specs.Prelude.{◌≡◌, ℕ, List, Some, true, false};
+ghost use Rattle.mc_wire.specs.LobbyTold.{LobbyTold};
+ghost use Rattle.mc_capture.specs.declared.tape_state.TapeState.{TapeState};
+ghost use Rattle.mc_capture.specs.TapedView.{mark_of};
+ghost use Rattle.mc_capture.specs.TapeStart.{IsTape, IsTapeOf, start_of};
 
 use mc_bytes::Octets;
-use mc_capture::Taped;
+use mc_capture::{Started, TapeState, Taped, TapedSince};
 use mc_rows::{Answer, Marked, Words};
 use mc_wire::{Event, Failed, Lobby, LogEntry, MemoryLobby, MemorySink, Sink, Trouble, Wrote};
 use std::alloc::{AllocError, Global};
+use std::marker::Brand;
 
 /// How many bytes a step has room for.
 const ROOM: usize = 70_000;
@@ -33,21 +38,43 @@ pub fn taped_row(words: &mut Words<'_>, answer: &mut Answer) {
 }
 
 /// Tapes a lobby into a sink, and makes the calls.
-fn run<L: Lobby, O: Sink>(lobby: &mut L, sink: &mut O, words: &mut Words<'_>, answer: &mut Answer) {
-    let mut taped = Taped::new(lobby, sink);
-    match taped.listen(25_565) {
-        Ok(()) => {
-            answer.word("listens");
-            steps(&mut taped, words, answer);
-        }
-        Err(Failed) => answer.word("failed"),
-    }
+fn run<L: Lobby, O: Sink>(lobby: &mut L, sink: &mut O, words: &mut Words<'_>, answer: &mut Answer)
+    ensures { (state : TapeState) × ((a b : LobbyTold) (xs ys : List ℕ) →
+        L.told lobby.old ≡ Some a → L.told lobby.new ≡ Some b → O.held sink.old ≡ Some xs →
+        O.held sink.new ≡ Some ys → IsTapeOf a b state xs ys) }
+{
+    let taped = run_since::<L, O, Brand>(Taped::new(lobby, sink), words, answer);
     answer.comma();
     answer.word(if taped.sink_failed() {
         "broken"
     } else {
         "sound"
     });
+}
+
+/// Listens, and where that does not fail goes on with the steps.
+fn run_since<'a, L: Lobby, O: Sink, S: Started>(
+    taped: Taped<'a, L, O>,
+    words: &mut Words<'_>,
+    answer: &mut Answer,
+) -> Taped<'a, L, O>
+    requires start { start_of L.told L.counts O.held O.faults taped ≡ S.start }
+    requires blank { taped.state ≡ TapeState.Blank }
+    requires heard { taped.heard ≡ false }
+    requires own_faults { taped.own_faults ≡ 0 }
+    ensures lobby { result.lobby.ghost_name ≡ taped.entry.lobby.ghost_name }
+    ensures sink { result.out.ghost_name ≡ taped.entry.out.ghost_name }
+    ensures tape { IsTape S.start (L.told result.lobby.now) (mark_of O.held O.faults result) }
+{
+    let mut since = TapedSince::<'a, L, O, S>::new(taped);
+    match since.listen(25_565) {
+        Ok(()) => {
+            answer.word("listens");
+            steps(&mut since, words, answer);
+        }
+        Err(Failed) => answer.word("failed"),
+    }
+    since.into_taped()
 }
 
 /// Makes as many calls as there are steps.
