@@ -22,7 +22,7 @@ use Rattle.mc_capture.specs.Grammar.{capture_head}
 use Rattle.mc_capture.specs.Tape.{TapeMark, Writes, WritesFrom, entry_bytes, head_behind, tape}
 use Rattle.mc_capture.specs.declared.taped.Taped.{Taped}
 use Rattle.mc_capture.specs.TapedView.{mark_of}
-use Rattle.mc_capture.specs.TapeStart.{FaultsSince, IsTape, TapeStart, added, written}
+use Rattle.mc_capture.specs.TapeStart.{FaultsSince, IsTape, IsTapeOf, TapeStart, added, written}
 
 -- How far a tape is over the calls of a taped lobby.
 
@@ -196,7 +196,8 @@ tape_step start told told' now now' change more bytes was becomes adds writes on
     let (zs, is_zs) = held_any now.state now'.state now now' ys bytes writes on held' in
     let (log, fresh, there) = was a b xs zs first is_b held is_zs in
     let (all, behind) = added_more a b c more log (ap (λ (t : LobbyTold). t.log) same ∙ adds b) in
-    let bytes_are = grown (added a b) fresh ∙ ap tape (sym behind) in
+    let bytes_are = grown (added a b) (λ blank. (fresh blank).0)
+    ∙ ap tape (sym behind) in
     let tape_is = more_written now.state now'.state now now' (so_far now.state (tape (added a b)))
     bytes xs ys writes (none_so_far now.state (tape (added a b))) on held'
     (λ zs' is'. (was a b xs zs' first is_b held is').2
@@ -252,6 +253,13 @@ tape_head start told told' now now' port was becomes writes on =
     tape_step start told told' now now' (with_port port) [] (head_behind now.state) was becomes
     (λ t. sym (append-nil t.log)) writes on (head_grown now.state)
 
+same_tape : (a b c : LobbyTold) (state : TapeState) (xs ys : List ℕ)
+    → c.log ≡ b.log
+    → c.ports ≡ b.ports
+    → IsTapeOf a b state xs ys
+    → IsTapeOf a c state xs ys
+same_tape a b c state xs ys same_log same_ports was = rw (same_log, same_ports) was
+
 -- a call that tells the pace
 pub tape_pace : (start : TapeStart) (told told' : Option LobbyTold) (now : TapeMark) (pace : Pace)
     → IsTape start told now
@@ -259,8 +267,8 @@ pub tape_pace : (start : TapeStart) (told told' : Option LobbyTold) (now : TapeM
     → IsTape start told' now
 tape_pace start told told' now pace was becomes a c xs ys first is held held' =
     let (b, is_b, same) = told_before told told' c (with_pace pace) becomes is in
-    let same_log : c.log ≡ b.log = ap (λ (t : LobbyTold). t.log) same in
-    rw same_log (was a b xs ys first is_b held held')
+    same_tape a b c now.state xs ys (ap (λ (t : LobbyTold). t.log) same)
+    (ap (λ (t : LobbyTold). t.ports) same) (was a b xs ys first is_b held held')
 
 -- ---- the sink's faults
 

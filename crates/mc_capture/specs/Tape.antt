@@ -1,7 +1,7 @@
 -- What a lobby that is taped writes, and how far that is written (rules of this project): the head
 -- of a capture, and then a record of each entry of the log but stalls and the end.
-use Rattle.std.specs.Prelude.{◌≡◌, ℕ, ◌+◌, ◌-◌, ◌^◌, Option, Some, List, [], ◌++◌, length}
-use Rattle.std.specs.Prelude.{take, drop, min}
+use Rattle.std.specs.Prelude.{◌≡◌, ℕ, ◌+◌, ◌-◌, ◌^◌, Option, List, [], ◌++◌, length}
+use Rattle.std.specs.Prelude.{take, min}
 use Rattle.std.specs.List.{flat_map}
 use Rattle.mc_wire.specs.declared.log.LogEntry.{LogEntry}
 use Rattle.mc_wire.specs.declared.log.LogEntry.TheVariants.{Joined, Came, Left, Ticked, Ended, Put}

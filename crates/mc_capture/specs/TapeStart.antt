@@ -1,6 +1,6 @@
 -- What a taped lobby began with, kept for contracts alone, and what holds of it since then (rules of
 -- this project).
-use Rattle.std.specs.Prelude.{◌≡◌, ◌≢◌, ℕ, ◌-◌, ◌^◌, ◌<◌, Bool, true, Option, Some, None, List, []}
+use Rattle.std.specs.Prelude.{◌≡◌, ℕ, ◌-◌, Option, Some, None, List, []}
 use Rattle.std.specs.Prelude.{◌++◌, length, take, drop}
 use Rattle.mc_wire.specs.declared.log.LogEntry.{LogEntry}
 use Rattle.mc_wire.specs.Count.{Rose, StandsOrRises}
@@ -53,13 +53,17 @@ written states.Blank bytes count = []
 written states.Written bytes count = bytes
 written states.Failed bytes count = take count bytes
 
--- Where the lobby and the sink still tell theirs: the log was added to, from the first call of
--- `listen` on, and the sink got the tape of that, or a first part of it where it failed.
+-- The log was added to, and behind what a sink held stands the tape of that, or a first part of it
+-- where it failed. Nothing is written until a port is told, and nothing was added to the log then.
+abbrev pub IsTapeOf : LobbyTold → LobbyTold → TapeState → List ℕ → List ℕ → Type 0
+IsTapeOf a b state xs ys = (b.log ≡ a.log ++ added a b)
+    × (state ≡ states.Blank → (added a b ≡ []) × (b.ports ≡ a.ports))
+    × (ys ≡ xs ++ written state (tape (added a b)) (length ys - length xs))
+
+-- so it is since a start, where the lobby and the sink still tell theirs
 abbrev pub IsTape : TapeStart → Option LobbyTold → TapeMark → Type 0
 IsTape start told now = (a b : LobbyTold) (xs ys : List ℕ) → start.told ≡ Some a →
-    told ≡ Some b → start.held ≡ Some xs → now.held ≡ Some ys → (b.log ≡ a.log ++ added a b)
-    × (now.state ≡ states.Blank → added a b ≡ [])
-    × (ys ≡ xs ++ written now.state (tape (added a b)) (length ys - length xs))
+    told ≡ Some b → start.held ≡ Some xs → now.held ≡ Some ys → IsTapeOf a b now.state xs ys
 
 -- the sink's faults rose where it failed
 abbrev pub FaultsSince : TapeStart → TapeMark → Type 0

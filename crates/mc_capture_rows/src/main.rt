@@ -5,6 +5,7 @@
 #![tactic(auto)]
 
 mod shows;
+mod tapes;
 mod views;
 
 use mc_rows::{Answer, Words};
@@ -18,6 +19,7 @@ fn answered(alloc: Global, row: &str) -> Answer {
     let mut words = Words::new(alloc, row);
     match words.word() {
         "show" => shows::show_row(&mut words, &mut answer),
+        "taped" => tapes::taped_row(&mut words, &mut answer),
         "view" => views::view_row(&mut words, &mut answer),
         _ => words.fail(),
     }

@@ -61,7 +61,7 @@ lines_stop = record {
       (λ next. lines_after b (count + 1) (size + (length line + 1)) next own_rest) same);
   long = λ a count size begun line rest past fine.
       let gone = line_past (count + 1) a (size + (length line + 1)) begun line past in
-      bad_or_ok (record { at = count + 1; kind = Long }) fine.0 (rw gone at fine.1);
+      bad_or_ok (record { line = count + 1; kind = Long }) fine.0 (rw gone at fine.1);
   on = λ a count size begun line rest fine.
       then_on (count + 1) (line_after (count + 1) a (size + (length line + 1)) begun line)
       (λ next. lines_after a (count + 1) (size + (length line + 1)) next rest) fine;

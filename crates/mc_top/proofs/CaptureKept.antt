@@ -7,6 +7,7 @@ use Rattle.std.specs.Prelude.{IfErr, OnErr, OnOk, option_map}
 use Rattle.mc_wire.specs.Count.{Rose, StandsOrRises}
 use Rattle.mc_wire.specs.Stream.{Grows}
 use Rattle.mc_text.specs.Passes.{SendsPart}
+use Rattle.mc_text.proofs.Growing.{grows_two}
 use Rattle.mc_capture.specs.declared.fault.CaptureEnd.{CaptureEnd}
 use Rattle.mc_capture.specs.declared.fault.CaptureEnd.TheVariants as ends
 use Rattle.mc_capture.specs.declared.fault.CaptureFault.{CaptureFault}
@@ -18,10 +19,9 @@ use Rattle.mc_show.specs.Shown.{EndsShow, ShowsClient, ShowsInPart}
 use Rattle.mc_words.specs.declared.bad_input.BadInput.{BadInput}
 use Rattle.mc_words.specs.declared.ended.Ended.{Ended}
 use Rattle.mc_words.specs.declared.ended.Ended.TheVariants as ended
-use Rattle.mc_words.specs.Devices.{Streams, streams}
+use Rattle.mc_words.specs.Devices.{Streams, WroteLast, WroteTextThenLast, streams}
 use Rattle.mc_words.specs.Ended.{bad_input_line, read_fault_line, status_of}
 use Rattle.mc_words.specs.Finishing.{Finishes}
-use Rattle.mc_words.proofs.Delivering.{wrote_both}
 use Rattle.mc_top.specs.CapturePromise.{AreFirst, CapturePromise, CaptureText, CapturedText}
 use Rattle.mc_top.specs.CapturePromise.{IsCaptureFault, IsPart, bad_of, ended_by_read}
 use Rattle.mc_top.specs.CapturePromise.{IsSizedEnd, shown, viewed}
@@ -108,6 +108,16 @@ show_captured client (Err ends.NoMemory) left left' held held' reads reads' writ
     (inr part) sized counts = part_shown client left left' held held' reads reads' writes writes' part
 
 -- ---- with the last line
+
+rose_after : (old mid new : ℕ) → StandsOrRises old mid → Rose mid new → Rose old new
+rose_after old mid new counts rose = grind (arith, nat_tests)
+
+-- a last line behind a text
+wrote_both : (held mid held' : Option (List ℕ)) (old half new : ℕ) (text line : List ℕ) →
+    Grows held mid text → StandsOrRises old half → WroteLast mid held' half new line →
+    WroteTextThenLast held held' old new text line
+wrote_both held mid held' old half new text line grows counts wrote =
+    grind (arith, nat_tests, grows_two, rose_after)
 
 -- what is written while a capture is read is some first part of its text
 abbrev pub IsText : CaptureText → Type 0

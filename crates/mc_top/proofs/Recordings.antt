@@ -48,7 +48,7 @@ pub taped_all : (start : TapeStart) (told : Option LobbyTold) (mark : TapeMark) 
 taped_all start told mark port entries is asks good = record {
   tapes = λ a b xs ys first now held there.
       let t = is a b xs ys first now held there in
-      (added a b, t.0, tape (added a b), all a b xs ys first now t.1.0 t.1.1, refl);
+      (added a b, t.0, tape (added a b), all a b xs ys first now t.1 t.2, refl);
 }
   where
     listened : (o n : Option LobbyTold) (a b : LobbyTold) → o ≡ Some a → n ≡ Some b →
@@ -82,12 +82,11 @@ pub taped_part : (start : TapeStart) (told : Option LobbyTold) (mark : TapeMark)
 taped_part start told mark is = record {
   tapes = λ a b xs ys first now held there.
       let t = is a b xs ys first now held there in
-      let all : List ℕ = tape (added a b) in
-      (
+      let all : List ℕ = tape (added a b) in (
         added a b,
         t.0,
         written mark.state all (length ys - length xs),
-        t.1.1,
+        t.2,
         part mark.state all (length ys - length xs),
       );
 }
@@ -108,7 +107,7 @@ paced_tapes old paced new held held' Wrote pace change paces becomes t = record 
   tapes = λ a b xs ys first now before after.
       let p = there old paced new a b first now paces becomes in
       let made = t.tapes p.0 b xs ys p.1 now before after in
-      (made.0, made.1 ∙ ap (λ (l : List LogEntry). l ++ made.0) p.2, made.2);
+      (made.0, made.1 ∙ ap (λ (l : List LogEntry). l ++ made.0) p.2, made.2, made.3, made.4);
 }
   where
     there : (o p n : Option LobbyTold) (a b : LobbyTold) → o ≡ Some a → n ≡ Some b →
@@ -126,8 +125,7 @@ pub untaped : (old paced : Option LobbyTold) (held : Option (List ℕ)) (pace : 
     ToldBecomes old paced (with_pace pace) → TapesPart old paced held held
 untaped old paced held pace paces = record {
   tapes = λ a b xs ys first now before after.
-      let same : xs ≡ ys = cc in
-      (
+      let same : xs ≡ ys = cc in (
         [],
         log old paced a b first now paces ∙ sym (append-nil a.log),
         [],

@@ -67,8 +67,7 @@ fn drive_taped<L: Lobby, O: Sink, M: Mind, S: Started>(
     ensures failed { result.failed ≡ true → Rose (O.faults out.old) (O.faults out.new) }
     ensures all { result.failed ≡ false →
         TapesAll (L.told lobby.old) (L.told lobby.new) (O.held out.old) (O.held out.new) }
-    ensures part {
-        TapesPart (L.told lobby.old) (L.told lobby.new) (O.held out.old) (O.held out.new) }
+    ensures part { TapesPart (L.told lobby.old) (L.told lobby.new) (O.held out.old) (O.held out.new) }
 {
     let mut since: TapedSince<'_, L, O, S> = TapedSince::new(Taped::new(lobby, out));
     let end = drive(server, &mut since, budget);
@@ -99,8 +98,7 @@ pub fn record<L: Lobby, O: Sink, M: Mind>(
     let Ok(mut server) = new_server(alloc, options.world, minds) else {
         return Ended::NoMemory;
     };
-    let recorded =
-        drive_taped::<L, O, M, Brand>(&mut server, budget_of(options), lobby, out);
+    let recorded = drive_taped::<L, O, M, Brand>(&mut server, budget_of(options), lobby, out);
     drop(server);
     ended_recording(recorded)
 }

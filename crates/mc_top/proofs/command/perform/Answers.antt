@@ -7,9 +7,8 @@ use Rattle.mc_top.proofs.BotKept.{bot_kept}
 use Rattle.mc_top.specs.CapturePromise.{shown, viewed}
 use Rattle.mc_top.proofs.CaptureKept.{capture_kept, shown_is_text, viewed_is_text}
 use Rattle.mc_top.proofs.Loads.{load_kept}
-use Rattle.mc_top.proofs.ServeKept.{serve_kept}
 use Rattle.mc_top.proofs.command.perform.Goals as goal
-use Rattle.mc_top.proofs.command.perform.Goals.{in-Status, in-Replay, in-Serve, in-Bot}
+use Rattle.mc_top.proofs.command.perform.Goals.{in-Status, in-Replay, in-Bot}
 use Rattle.mc_top.proofs.command.perform.Goals.{in-View, in-Show, in-Load}
 
 pub returns : goal.returns
@@ -33,22 +32,6 @@ returns g c = elim c.match-command.branch [
           plays_on _ w.replay-ended.result c.finish.result _ _ _ _ _ said.plays
               last,
         ),
-      )
-  | in-Serve w ↦
-      let last = rw (w.ended-is, w.out-is) at c.finish.ensures in
-      let said = w.serve-ended.ensures in
-      rw (w.in-Serve.is, w.lobby-is, w.link-is, w.input-is) (
-        ((refl, refl), refl),
-        serve_kept _ g.O.Sink.held g.O.Sink.faults _ w.in-Serve.options w.serve-ended.result
-            c.finish.result _ _ _ _ _ _ _ c.args.out.now w.serve-ended.new.out c.finish.new.out
-            (record {
-              done = said.done;
-              no_memory = said.no_memory;
-              ends = said.ends;
-              write_fault = said.write_fault;
-              net_fault = said.net_fault;
-              budget = said.budget;
-            }) last,
       )
   | in-Bot w ↦
       let last = rw (w.ended-is, w.out-is) at c.finish.ensures in
@@ -80,3 +63,6 @@ returns g c = elim c.match-command.branch [
             w.load-ended.ensures last,
       )
 ]
+
+pub returns-in-Serve : goal.returns-in-Serve
+returns-in-Serve g c = rw c.in-Serve.is (((refl, refl), refl), c.serve.ensures _ _ _)

@@ -1,4 +1,3 @@
-use Rattle.std.proofs.Common.{rules}
 use Rattle.mc_wire.specs.declared.log.LogEntry.TheVariants.{Closed}
 use Rattle.mc_capture.specs.TapedView.{mark_of}
 use Rattle.mc_capture.proofs.Tapes.{faults_since, tape_entry}
