@@ -12,6 +12,7 @@ use std::alloc::Global;
 
 /// Reads a capture to its end, or to what is wrong with it, and follows the client of a number by
 /// the records of its connection.
+// A record is read where it stands: taken out of the Option it doubles what is to be proved here.
 fn read_through<I: Source>(
     alloc: Global,
     number: u32,
