@@ -3,9 +3,8 @@ use Rattle.std.proofs.Common.{◌≡◌, ℕ, ◌<◌, List, [], ◌∷◌, ◌+
 use Rattle.std.proofs.Common.{ap, ◌∙◌, append_assoc, arith, Option, Some, None, Ok, Err}
 use Rattle.std.proofs.lemmas.List.{append-nil}
 use Rattle.mc_bytes.specs.Reading.{Field}
-use Rattle.mc_frame.specs.declared.fault.FrameFault.{FrameFault}
 use Rattle.mc_frame.specs.Frame.{SpellsFrame, frame_read}
-use Rattle.mc_frame.specs.Cut.{Ends, IsPart}
+use Rattle.mc_frame.specs.Cut.{IsPart}
 use Rattle.mc_frame.proofs.Cuts.{frame_some}
 use Rattle.mc_packets.specs.declared.down.Down.{Down}
 use Rattle.mc_capture.specs.declared.states.States.{States}

@@ -1,6 +1,7 @@
 -- A client that is followed record by record: what was read, and what the client came to.
 use Rattle.std.proofs.Common.{◌≡◌, ℕ, ◌+◌, ◌==◌, List, [], ◌∷◌, ◌++◌, length, refl, sym, subst}
-use Rattle.std.proofs.Common.{ap, ◌∙◌, append_assoc, arith, Option, Some, None, Bool, true, false, ◌⊎◌, inl, inr}
+use Rattle.std.proofs.Common.{ap, ◌∙◌, append_assoc, arith, Option, Bool, true, false}
+use Rattle.std.proofs.Common.{◌⊎◌, inl, inr}
 use Rattle.std.specs.Prelude.{if◌then◌else◌, Result, Ok, Err, OnErr, IfErr}
 use Rattle.std.proofs.lemmas.List.{append-nil}
 use Rattle.std.proofs.lemmas.List.Sums.{fold-append}
@@ -9,23 +10,22 @@ use Rattle.mc_wire.specs.Stream.{Consumes, Grows, IsAtEnd}
 use Rattle.mc_packets.specs.declared.down.Down.{Down}
 use Rattle.mc_capture.specs.declared.fault.CaptureEnd.{CaptureEnd}
 use Rattle.mc_capture.specs.declared.fault.CaptureEnd.TheVariants as ends
-use Rattle.mc_capture.specs.declared.fault.CaptureFault.{CaptureFault}
 use Rattle.mc_capture.specs.declared.record.Record.{Record}
 use Rattle.mc_capture.specs.declared.states.Way.TheVariants.{Up, Down as ToClient}
 use Rattle.mc_capture.specs.Gathering.{WritesPart}
 use Rattle.mc_capture.specs.Grammar.{IsRecord, capture_head, record_bytes}
-use Rattle.mc_capture.specs.Reading.{EndsHead, EndsSo, FindsWrong, kept_place}
-use Rattle.mc_capture.specs.Talks.{Hearing, Talk, hearing_of, new_talk, talk_after, with_hearing}
-use Rattle.mc_capture.specs.Viewed.{Begins, Faults, IsNumbered, IsRead, end_of}
+use Rattle.mc_capture.specs.Reading.{EndsHead, EndsSo, kept_place}
+use Rattle.mc_capture.specs.Talks.{Hearing, Talk, hearing_of, new_talk, with_hearing}
+use Rattle.mc_capture.specs.Viewed.{Begins, Faults, IsNumbered, end_of}
 use Rattle.mc_capture.specs.Viewed.IsRead.{headed, headless}
 use Rattle.mc_capture.specs.ViewText.{after_record, talk_behind, talk_of}
-use Rattle.mc_capture.proofs.ViewSteps.{after_down, after_up, begins_next, place_next}
+use Rattle.mc_capture.proofs.ViewSteps.{after_up, begins_next, place_next}
 use Rattle.mc_capture.proofs.ViewSteps.{rose_later, talk_one_more, wrong_there}
 use Rattle.mc_model.specs.Replica.{Replica, apply, new_replica, replay}
 use Rattle.mc_replica.specs.Dump.{dump_text}
 use Rattle.mc_show.specs.Following.{Brings, Followed, first_followed, followed_after, followed_by}
 use Rattle.mc_show.specs.PlayPackets.{heard_packets, packets_behind, play_packets, record_packets}
-use Rattle.mc_show.specs.Shown.{EndsFollowing, EndsShow, HasFault, IsFollowed}
+use Rattle.mc_show.specs.Shown.{EndsFollowing, EndsShow, IsFollowed}
 use Rattle.mc_show.specs.Shown.{ShowsClient, ShowsInPart}
 use Rattle.mc_show.specs.ShowText.{show_text}
 use Rattle.mc_show.proofs.Packets.{packets_up}

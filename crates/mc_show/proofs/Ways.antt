@@ -1,6 +1,6 @@
 -- What bytes of one way bring it to, and the world of its client: frame by frame, piece by piece.
 use Rattle.std.proofs.Common.{◌≡◌, ℕ, List, [], ◌++◌, ◌∷◌, length, take, drop, refl, sym, subst}
-use Rattle.std.proofs.Common.{ap, ◌∙◌, arith, Bool, true, false, Option, Some, None}
+use Rattle.std.proofs.Common.{ap, ◌∙◌, arith, Option, Some, None}
 use Rattle.std.proofs.lemmas.List.{take-append-drop}
 use Rattle.std.proofs.lemmas.List.Sums.{fold-append}
 use Rattle.mc_bytes.specs.Reading.{Field}
@@ -8,21 +8,16 @@ use Rattle.mc_frame.specs.declared.fault.FrameFault.{FrameFault}
 use Rattle.mc_frame.specs.Frame.{SpellsFrame}
 use Rattle.mc_frame.specs.Cut.{Ends, IsPart}
 use Rattle.mc_packets.specs.declared.down.Down.{Down}
-use Rattle.mc_capture.specs.declared.states.State.{State}
-use Rattle.mc_capture.specs.declared.states.State.TheVariants.{Play}
 use Rattle.mc_capture.specs.declared.states.States.{States}
-use Rattle.mc_capture.specs.declared.states.Turn.{Turn}
 use Rattle.mc_capture.specs.declared.states.Way.{Way}
-use Rattle.mc_capture.specs.declared.states.Way.TheVariants.{Down as ToClient}
-use Rattle.mc_capture.specs.Frames.{turn_of}
-use Rattle.mc_capture.specs.Hearings.{from_front, goes_on, heard_from}
-use Rattle.mc_capture.specs.Talks.{Hearing, on_bytes, on_frame, on_part, on_read, on_turn}
+use Rattle.mc_capture.specs.Hearings.{from_front, heard_from}
+use Rattle.mc_capture.specs.Talks.{Hearing, on_bytes, on_part, on_read}
 use Rattle.mc_capture.proofs.Bytes.{behind_part, frame_heard, from_first, heard_two}
 use Rattle.mc_capture.proofs.Bytes.{part_heard, stays_silent}
 use Rattle.mc_capture.proofs.Fronts.{Breaks, end_breaks}
 use Rattle.mc_model.specs.Replica.{Replica, apply, replay}
-use Rattle.mc_show.specs.Following.{Brings, FrameBrings, turn_where}
-use Rattle.mc_show.specs.PlayPackets.{frame_packets, heard_packets, read_packets}
+use Rattle.mc_show.specs.Following.{Brings, FrameBrings}
+use Rattle.mc_show.specs.PlayPackets.{heard_packets, read_packets}
 use Rattle.mc_show.proofs.Packets.{packets_first, packets_frame, packets_part, packets_silent}
 use Rattle.mc_show.proofs.Packets.{packets_two}
 

@@ -1,7 +1,5 @@
 -- How a client is followed through a capture: how far its connection has come, and its world.
 use Rattle.std.specs.Prelude.{◌≡◌, ℕ, Bool, true, false, List, Option, Some, None}
-use Rattle.mc_frame.specs.Held.{Splitting}
-use Rattle.mc_packets.specs.declared.down.Down.{Down}
 use Rattle.mc_capture.specs.declared.record.Record.{Record}
 use Rattle.mc_capture.specs.declared.states.States.{States}
 use Rattle.mc_capture.specs.declared.states.Turn.{Turn}

@@ -1,5 +1,5 @@
--- What showing a client's world out of a capture comes to: what was read, how it ended, and what was
--- written (rules of this project).
+-- What showing a client's world out of a capture comes to: what was read, how it ended, and what
+-- was written (rules of this project).
 use Rattle.std.specs.Prelude.{◌≡◌, ℕ, List, [], Option, Some, None, ◌⊎◌}
 use Rattle.mc_wire.specs.Count.{Rose}
 use Rattle.mc_wire.specs.Stream.{Grows}

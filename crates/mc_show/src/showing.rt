@@ -12,6 +12,7 @@ use std::alloc::Global;
 
 /// Reads a capture to its end, or to what is wrong with it, and follows the client of a number by
 /// the records of its connection.
+// A record is read where it stands: taken out of the Option it doubles what is to be proved here.
 fn read_through<I: Source>(
     alloc: Global,
     number: u32,
@@ -96,8 +97,8 @@ fn show_into<I: Source, O: Sink>(
 
 /// Writes the world of one client out of a capture as text: the dump of what the packets of play
 /// make of it that the client took, up to the first fault of that way of its connection. Ok where
-/// the source was read to its end. Where the bytes are no capture nothing is written, and `Bad` says
-/// what is wrong and where.
+/// the source was read to its end. Where the bytes are no capture nothing is written, and `Bad`
+/// says what is wrong and where.
 ///
 /// It holds that world, one record, and the part of a frame that each way of the connection waits
 /// with.

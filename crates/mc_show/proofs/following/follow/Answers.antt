@@ -1,4 +1,4 @@
-use Rattle.std.proofs.Common.{◌≡◌, None, Option, sym, subst, ◌∙◌}
+use Rattle.std.proofs.Common.{None, Option, sym, subst, ◌∙◌}
 use Rattle.mc_frame.specs.Held.{Splitting}
 use Rattle.mc_capture.specs.Hearings.{waiting_in}
 use Rattle.mc_show.specs.Following.{Brings}

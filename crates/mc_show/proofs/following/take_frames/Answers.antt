@@ -1,6 +1,5 @@
 use Rattle.std.proofs.Common.{Bool, false, [], subst}
 use Rattle.mc_capture.specs.Hearings.{from_front, goes_on, heard_from}
-use Rattle.mc_capture.specs.Talks.{Hearing}
 use Rattle.mc_capture.proofs.Bytes.{frame_shorter}
 use Rattle.mc_show.specs.Following.{FrameBrings}
 use Rattle.mc_show.proofs.Ways.{fault_brings, frame_brings, part_brings, silent_brings}
