@@ -23,10 +23,11 @@ use Rattle.mc_server.specs.declared.service.Ended as drives
 use Rattle.mc_server.specs.Drives.{DroveNew}
 use Rattle.mc_events.specs.Served.{ServerValue}
 use Rattle.mc_words.specs.declared.arguments.ServeOptions.{ServeOptions}
+use Rattle.mc_words.specs.declared.ended.Ended.{Ended}
 use Rattle.mc_words.specs.declared.ended.Ended.TheVariants as ended
 use Rattle.mc_words.specs.Devices.{LinkDevice, devices}
 use Rattle.mc_top.specs.RecordPromise.{Records, Tapes, TapesAll, TapesPart}
-use Rattle.mc_top.specs.Recording.{IsLost, ended_by_end}
+use Rattle.mc_top.specs.Recording.{IsLost, ended_by_end, ended_recording}
 use Rattle.mc_top.specs.ReplayPromise.{start_of}
 use Rattle.mc_top.specs.ServePromise.{HasServed, budget_of}
 use Rattle.mc_top.proofs.Serves.{has_served}
@@ -159,7 +160,7 @@ module _ (plans : Plans) (options : ServeOptions) (old paced new : Option LobbyT
       (failed ≡ false → IsLost end → Rose mid.faults counts'.faults) →
       (failed ≡ true → Rose writes writes') → (failed ≡ false → TapesAll paced new held held') →
       TapesPart paced new held held' →
-      Records plans options (cond failed ended.WriteFault (ended_by_end end))
+      Records plans options (ended_recording failed end)
       (devices old counts link left reads held writes)
       (devices new counts' link left reads held' writes')
   recorded_by failed end server drove lost broke all part = by failed end drove lost broke all
@@ -205,3 +206,16 @@ module _ (plans : Plans) (options : ServeOptions) (old paced new : Option LobbyT
           (served (Err (Events n)) d, whole (Err (Events n)) d (all refl))
       by false (Err NoMemory) d lost broke all =
           (inr (Err NoMemory, served (Err NoMemory) d), partly (Err NoMemory) d)
+
+-- the devices at the end are as they were found in the lobby that was taped
+pub recorded_as : (plans : Plans) (options : ServeOptions) (how : Ended) (old new new' : Option LobbyTold)
+    (counts counts' counts'' : LobbyCounts) (link : LinkDevice) (left : Option (List ℕ)) (reads : ℕ)
+    (held held' held'' : Option (List ℕ)) (writes writes' writes'' : ℕ) → new' ≡ new →
+    counts'' ≡ counts' → held'' ≡ held' → writes'' ≡ writes' →
+    Records plans options how (devices old counts link left reads held writes)
+    (devices new counts' link left reads held' writes') →
+    Records plans options how (devices old counts link left reads held writes)
+    (devices new' counts'' link left reads held'' writes'')
+recorded_as plans options how old new new' counts counts' counts'' link left reads held held' held''
+    writes writes' writes'' told counted there faults said =
+    rw (told, counted, there, faults) said

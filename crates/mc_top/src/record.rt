@@ -1,5 +1,10 @@
-ghost use Rattle.std.specs.Prelude.{◌≡◌, ◌<◌, ◌≤◌, ◌^◌, ℕ, List, Option, map, true, false};
+ghost use Rattle.std.specs.Prelude.{◌≡◌, ◌≢◌, ◌<◌, ◌≤◌, ◌×◌, ◌^◌, ℕ, List, Option, map, false};
+ghost use Rattle.mc_wire.specs.declared.log.LogEntry.{LogEntry};
+ghost use Rattle.mc_wire.specs.Becoming.{ToldBecomes};
 ghost use Rattle.mc_wire.specs.Count.{Rose};
+ghost use Rattle.mc_wire.specs.LobbyTold.{with_entries, with_port};
+ghost use Rattle.mc_capture.specs.TapedView.{mark_of};
+ghost use Rattle.mc_capture.specs.TapeStart.{FaultsSince, IsTape, start_of};
 ghost use Rattle.mc_model.specs.Game.{AreSettings};
 ghost use Rattle.mc_model.specs.Minds.{Start};
 ghost use Rattle.mc_model.specs.World.{new_world};
@@ -8,13 +13,13 @@ ghost use Rattle.mc_server.specs.Minded.{StandsFor};
 ghost use Rattle.mc_events.specs.Served.{age_of};
 ghost use Rattle.mc_words.specs.Arguments.{CanServe};
 ghost use Rattle.mc_words.specs.Devices.{LinkDevice, devices};
-ghost use Rattle.mc_top.specs.RecordPromise.{Records, TapesAll, TapesPart};
-ghost use Rattle.mc_top.specs.Recording.{IsLost, ended_recording, start_at};
+ghost use Rattle.mc_top.specs.RecordPromise.{Records};
+ghost use Rattle.mc_top.specs.Recording.{IsLost, ended_recording};
 ghost use Rattle.mc_top.specs.ServePromise.{budget_of};
 
 use crate::serve::{budget_of, ended_by};
 use crate::world::new_server;
-use mc_capture::{Started, Taped, TapedSince};
+use mc_capture::{Started, TapeState, Taped, TapedSince};
 use mc_entities::Mind;
 use mc_server::{Budget, DriveFault, Server, Serving, drive};
 use mc_wire::{Lobby, Sink};
@@ -22,59 +27,66 @@ use mc_words::{Ended, ServeOptions};
 use std::alloc::Global;
 use std::marker::Brand;
 
-/// How serving a lobby with a capture ended.
+/// A lobby that was served with a capture.
 #[derive(Drop)]
-struct Recorded {
-    /// How serving ended.
+struct Recorded<'a, L, O> {
+    /// How serving it ended.
     end: Result<mc_server::Ended, DriveFault>,
-    /// Whether the output failed.
-    failed: bool,
+    /// The lobby and the output, with how far the capture is.
+    taped: Taped<'a, L, O>,
 }
 
 /// How the command ends where serving ended so: an output that failed comes first, since the lobby
 /// was asked for nothing more then.
-fn ended_recording(recorded: Recorded) -> Ended
-    ensures { result ≡ ended_recording recorded }
+fn ended_recording(failed: bool, end: Result<mc_server::Ended, DriveFault>) -> Ended
+    ensures { result ≡ ended_recording failed end }
 {
-    if recorded.failed {
+    if failed {
         return Ended::WriteFault;
     }
-    match recorded.end {
+    match end {
         Ok(_) => Ended::Done,
         Err(fault) => ended_by(fault),
     }
 }
 
-/// Serves a lobby, and writes all that happens as a capture.
-fn drive_taped<L: Lobby, O: Sink, M: Mind, S: Started>(
+/// Serves a lobby, and writes all that happens as a capture. What holds of both since its start is
+/// told by the type, so it is kept through a loop over any lobby.
+fn drive_taped<'a, L: Lobby, O: Sink, M: Mind, S: Started>(
     server: &mut Server<M>,
     budget: Budget,
-    lobby: &mut L,
-    out: &mut O,
-) -> Recorded
+    taped: Taped<'a, L, O>,
+) -> Recorded<'a, L, O>
     requires young { age_of server.old.inner ≡ 0 }
     requires port { 1 ≤ budget.port }
     requires ticks { (1 ≤ budget.ticks) × (budget.ticks ≤ 1000000000) }
     requires events { 1 ≤ budget.events }
-    requires start { S.start ≡ start_at lobby.ghost_name out.ghost_name
-        (L.told lobby.old) (L.counts lobby.old) (O.held out.old) (O.faults out.old) }
-    requires small { (L.counts lobby.old).faults < 2 ^ 64 }
+    requires start { start_of L.told L.counts O.held O.faults taped ≡ S.start }
+    requires blank { taped.state ≡ TapeState.Blank }
+    requires heard { taped.heard ≡ false }
+    requires own_faults { taped.own_faults ≡ 0 }
+    requires small { (L.counts taped.lobby.now).faults < 2 ^ 64 }
+    ensures lobby { result.taped.lobby.ghost_name ≡ taped.entry.lobby.ghost_name }
+    ensures sink { result.taped.out.ghost_name ≡ taped.entry.out.ghost_name }
     ensures drove { (start : Start) → AreSettings start.settings.players start.settings.cap →
         StandsFor (⟦<Server<M> as Serving>⟧.value server.old) (new_world start) → DroveNew budget
-        (L.told lobby.old) (L.told lobby.new) start server.new.inner result.end }
-    ensures lost { result.failed ≡ false → IsLost result.end →
-        Rose (L.counts lobby.old).faults (L.counts lobby.new).faults }
-    ensures failed { result.failed ≡ true → Rose (O.faults out.old) (O.faults out.new) }
-    ensures all { result.failed ≡ false →
-        TapesAll (L.told lobby.old) (L.told lobby.new) (O.held out.old) (O.held out.new) }
-    ensures part { TapesPart (L.told lobby.old) (L.told lobby.new) (O.held out.old) (O.held out.new) }
+        (L.told taped.entry.lobby.now) (L.told result.taped.lobby.now) start server.new.inner
+        result.end }
+    ensures asks { (entries : List LogEntry) × ToldBecomes (L.told taped.entry.lobby.now)
+        (L.told result.taped.lobby.now)
+        (λ told. with_entries entries (with_port budget.port told)) }
+    ensures lost { result.taped.state ≢ TapeState.Failed → IsLost result.end → Rose
+        (L.counts taped.entry.lobby.now).faults (L.counts result.taped.lobby.now).faults }
+    ensures tape { IsTape S.start (L.told result.taped.lobby.now)
+        (mark_of O.held O.faults result.taped) }
+    ensures faults { FaultsSince S.start (mark_of O.held O.faults result.taped) }
 {
-    let mut since: TapedSince<'_, L, O, S> = TapedSince::new(Taped::new(lobby, out));
+    let mut since = TapedSince::<'a, L, O, S>::new(taped);
     let end = drive(server, &mut since, budget);
-    let taped = since.into_taped();
-    let failed = taped.sink_failed();
-    drop(taped);
-    Recorded { end, failed }
+    Recorded {
+        end,
+        taped: since.into_taped(),
+    }
 }
 
 /// The command `serve` with a capture: it tells the lobby the pace, serves it with a server of a new
@@ -98,7 +110,8 @@ pub fn record<L: Lobby, O: Sink, M: Mind>(
     let Ok(mut server) = new_server(alloc, options.world, minds) else {
         return Ended::NoMemory;
     };
-    let recorded = drive_taped::<L, O, M, Brand>(&mut server, budget_of(options), lobby, out);
+    let taped = Taped::new(lobby, out);
+    let recorded = drive_taped::<L, O, M, Brand>(&mut server, budget_of(options), taped);
     drop(server);
-    ended_recording(recorded)
+    ended_recording(recorded.taped.sink_failed(), recorded.end)
 }

@@ -16,7 +16,7 @@ returns g c = elim c.match-command.branch [
   | in-Status w ↦
       let last = rw (w.ended-is, w.out-is) at c.finish.ensures in
       let said = w.status-ended.ensures in
-      rw (w.in-Status.is, w.lobby-is, w.link-is, w.input-is) (
+      rw (w.in-Status.is, w.link-is, w.input-is) (
         ((refl, refl), refl),
         delivers (status_told w.in-Status.most) w.status-ended.result c.finish.result
             _ _ _ _ _ _ _ _ _ _ said last,
@@ -24,7 +24,7 @@ returns g c = elim c.match-command.branch [
   | in-Replay w ↦
       let last = rw (w.ended-is, w.out-is) at c.finish.ensures in
       let said = w.replay-ended.ensures in
-      rw (w.in-Replay.is, w.lobby-is, w.link-is, w.input-is) (
+      rw (w.in-Replay.is, w.link-is, w.input-is) (
         ((refl, refl), refl),
         (
           delivers (replay_told _) w.replay-ended.result c.finish.result
@@ -36,28 +36,28 @@ returns g c = elim c.match-command.branch [
   | in-Bot w ↦
       let last = rw (w.ended-is, w.out-is) at c.finish.ensures in
       let said = w.bot-ended.ensures in
-      rw (w.in-Bot.is, w.lobby-is, w.link-is, w.input-is) (
+      rw (w.in-Bot.is, w.link-is, w.input-is) (
         (refl, refl),
         bot_kept _ g.O.Sink.held g.O.Sink.faults w.in-Bot.options _ _ _ _ _ _ c.args.out.now
             w.bot-ended.new.out c.finish.new.out w.bot-ended.result c.finish.result said last,
       )
   | in-View w ↦
       let last = rw (w.ended-is, w.out-is) at c.finish.ensures in
-      rw (w.in-View.is, w.lobby-is, w.link-is, w.input-is) (
+      rw (w.in-View.is, w.link-is, w.input-is) (
         (refl, refl),
         capture_kept viewed w.view-ended.result c.finish.result _ _ _ _ _ _ _ _ _ _
             viewed_is_text w.view-ended.ensures last,
       )
   | in-Show w ↦
       let last = rw (w.ended-is, w.out-is) at c.finish.ensures in
-      rw (w.in-Show.is, w.lobby-is, w.link-is, w.input-is) (
+      rw (w.in-Show.is, w.link-is, w.input-is) (
         (refl, refl),
         capture_kept (shown w.in-Show.client) w.show-ended.result c.finish.result
             _ _ _ _ _ _ _ _ _ _ (shown_is_text w.in-Show.client) w.show-ended.ensures last,
       )
   | in-Load w ↦
       let last = rw (w.ended-is, w.out-is) at c.finish.ensures in
-      rw (w.in-Load.is, w.lobby-is, w.link-is, w.input-is) (
+      rw (w.in-Load.is, w.link-is, w.input-is) (
         ((refl, refl), (refl, refl)),
         load_kept w.in-Load.options w.load-ended.result c.finish.result _ _ _ _ _ _
             w.load-ended.ensures last,
