@@ -76,16 +76,6 @@ part_behind n xs zs ys all bytes first grows = part_there (length all + n) xs ys
     (grows ∙ ap (λ more. more ++ take n bytes) first ∙ append_assoc xs all (take n bytes)
     ∙ ap (λ more. xs ++ more) (sym (take-append-add all bytes n)))
 
--- all was written of what there is
-whole : (state : TapeState) (all xs ys : List ℕ) (count : ℕ)
-    → state ≢ states.Failed
-    → (state ≡ states.Blank → all ≡ [])
-    → ys ≡ xs ++ written state all count
-    → ys ≡ xs ++ all
-whole states.Blank all xs ys count fine fresh is = is ∙ ap (λ zs. xs ++ zs) (sym (fresh refl))
-whole states.Written all xs ys count fine fresh is = is
-whole states.Failed all xs ys count fine fresh is = absurd (fine refl)
-
 -- more was written, all of it or a first part
 more_written : (before after : TapeState) (old new : TapeMark) (all bytes xs ys : List ℕ)
     → WritesFrom before after old new bytes
@@ -102,8 +92,7 @@ more_written states.Failed states.Written old new all bytes xs ys writes fresh o
     absurd writes
 more_written states.Blank states.Written old new all bytes xs ys writes fresh on held was =
     let (zs, is, grows) = held_before old.held new.held ys bytes writes.0 held in
-    let first : zs ≡ xs ++ all = whole states.Blank all xs zs (length zs - length xs) (λ e. absurd cc)
-    fresh (was zs is) in
+    let first : zs ≡ xs ++ all = was zs is ∙ ap (λ more. xs ++ more) (sym (fresh refl)) in
     grows ∙ ap (λ more. more ++ bytes) first ∙ append_assoc xs all bytes
 more_written states.Written states.Written old new all bytes xs ys writes fresh on held was =
     let (zs, is, grows) = held_before old.held new.held ys bytes writes.0 held in
@@ -111,8 +100,7 @@ more_written states.Written states.Written old new all bytes xs ys writes fresh 
 more_written states.Blank states.Failed old new all bytes xs ys writes fresh on held was =
     let n : ℕ = writes.0.0 in
     let (zs, is, grows) = held_before old.held new.held ys (take n bytes) writes.0.1 held in
-    let first : zs ≡ xs ++ all = whole states.Blank all xs zs (length zs - length xs) (λ e. absurd cc)
-    fresh (was zs is) in
+    let first : zs ≡ xs ++ all = was zs is ∙ ap (λ more. xs ++ more) (sym (fresh refl)) in
     part_behind n xs zs ys all bytes first grows
 more_written states.Written states.Failed old new all bytes xs ys writes fresh on held was =
     let n : ℕ = writes.0.0 in

@@ -28,8 +28,12 @@ abbrev pub heading : ℕ → ℕ → ℕ → List ℕ
 heading kind connection size =
     kind ∷ (number_spelling w32 connection ++ number_spelling w32 size)
 
+-- a record of a kind and a connection that carries these bytes
+abbrev pub record_with : ℕ → ℕ → List ℕ → List ℕ
+record_with kind connection carried = heading kind connection (length carried) ++ carried
+
 abbrev pub record_bytes : Record → List ℕ
-record_bytes r = heading r.kind r.connection (length r.bytes) ++ r.bytes
+record_bytes r = record_with r.kind r.connection r.bytes
 
 abbrev pub records_bytes : List Record → List ℕ
 records_bytes records = flat_map record_bytes records

@@ -11,24 +11,26 @@ use Rattle.mc_wire.specs.Stream.{Grows}
 use Rattle.mc_wire.specs.LobbyCounts.{LobbyCounts}
 use Rattle.mc_capture.specs.declared.tape_state.TapeState.{TapeState}
 use Rattle.mc_capture.specs.declared.tape_state.TapeState.TheVariants as states
-use Rattle.mc_capture.specs.Grammar.{capture_head, heading}
+use Rattle.mc_capture.specs.Grammar.{record_with, capture_head}
 
 -- ---- a log as a capture
 
--- a record of a kind and a connection that carries these bytes
-abbrev pub bytes_of : ℕ → ℕ → List ℕ → List ℕ
-bytes_of kind k carried = heading kind k (length carried) ++ carried
-
 abbrev pub entry_bytes : LogEntry → List ℕ
-entry_bytes (Joined k) = bytes_of 0 k []
-entry_bytes (Came k bytes) = bytes_of 1 k bytes
-entry_bytes (Left k) = bytes_of 2 k []
-entry_bytes Ticked = bytes_of 3 0 []
-entry_bytes (Put k bytes) = bytes_of 4 k bytes
-entry_bytes (Broke k) = bytes_of 5 k []
-entry_bytes (Closed k) = bytes_of 6 k []
+entry_bytes (Joined k) = record_with 0 k []
+entry_bytes (Came k bytes) = record_with 1 k bytes
+entry_bytes (Left k) = record_with 2 k []
+entry_bytes Ticked = record_with 3 0 []
+entry_bytes (Put k bytes) = record_with 4 k bytes
+entry_bytes (Broke k) = record_with 5 k []
+entry_bytes (Closed k) = record_with 6 k []
 entry_bytes (Stalled k) = []
 entry_bytes Ended = []
+
+-- how many bytes the record of an entry carries
+abbrev pub carried_by : LogEntry → ℕ
+carried_by (Came k bytes) = length bytes
+carried_by (Put k bytes) = length bytes
+carried_by other = 0
 
 abbrev pub tape : List LogEntry → List ℕ
 tape log = capture_head ++ flat_map entry_bytes log

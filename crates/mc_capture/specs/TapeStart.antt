@@ -1,5 +1,5 @@
--- What a taped lobby began with, kept for contracts alone, and what holds of it since then (rules of
--- this project).
+-- What a taped lobby began with, kept for contracts alone, and what holds of it since then (rules
+-- of this project).
 use Rattle.std.specs.Prelude.{◌≡◌, ℕ, ◌-◌, Option, Some, None, List, []}
 use Rattle.std.specs.Prelude.{◌++◌, length, take, drop}
 use Rattle.mc_wire.specs.declared.log.LogEntry.{LogEntry}

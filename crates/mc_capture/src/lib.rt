@@ -1,8 +1,9 @@
 //! Captures: what happened between a server and its clients, record by record, written and read.
 //!
-//! Stands on the devices of `mc_wire` and the numbers of `mc_bytes`. Its one contract: what a writer
-//! writes are the bytes of its records, and what a reader reads are records, one after another,
-//! until the capture ends or its bytes are no record, which is told with its place.
+//! Stands on the devices of `mc_wire` and the numbers of `mc_bytes`. Its one contract: what a
+//! writer writes are the bytes of its records, and what a reader reads are records, one after
+//! another, until the capture ends or its bytes are no record, which is told with its place; and a
+//! lobby that is taped passes each call on and writes the records of what happened.
 #![tactic(auto)]
 
 mod conversation;

@@ -1,3 +1,14 @@
+//! A lobby that records.
+//!
+//! `Taped` borrows a lobby and a sink. Each call says what it writes (`Writes`: all of some bytes,
+//! or a first part of them where the sink fails, or nothing after that), and a call that is passed
+//! on says of the lobby what the lobby says of itself. So the capture of a run is the head, and then
+//! what each entry of the log comes to, in the order of the calls (`tape`).
+//!
+//! It has fields of its own for what no lobby tells: `state` says whether the head is written;
+//! `heard` is what it listens by, so that no record comes before the head; and `own_faults` counts
+//! what it answers by itself. What a loop over any lobby leaves of all that is said by `TapedSince`.
+
 ghost use Rattle.std.specs.Prelude.{◌≡◌, ◌≢◌, ◌<◌, ◌≤◌, ◌↔◌, ◌||◌, ◌⊎◌, [], ◌∷◌, length};
 ghost use Rattle.std.specs.Prelude.{true, false, is_ok, IsErr, IfOk, OnErr};
 ghost use Rattle.mc_wire.specs.Count.{Rose};
@@ -6,8 +17,8 @@ ghost use Rattle.mc_wire.specs.Becoming.{ToldBecomes, Logs};
 ghost use Rattle.mc_wire.specs.LobbyCounts.{NoneFalls, HasCause};
 ghost use Rattle.mc_wire.specs.LobbyAnswers.{event_entry, wrote_entry, IsInBuffer, IsInPiece};
 ghost use Rattle.mc_wire.specs.LobbyAnswers.{RaisesLeast};
-ghost use Rattle.mc_capture.specs.Grammar.{most_bytes};
-ghost use Rattle.mc_capture.specs.Tape.{Writes, bytes_of, entry_bytes};
+ghost use Rattle.mc_capture.specs.Grammar.{record_with, most_bytes};
+ghost use Rattle.mc_capture.specs.Tape.{Writes, carried_by, entry_bytes};
 ghost use Rattle.mc_capture.specs.Tape.{head_behind, own_after};
 ghost use Rattle.mc_capture.specs.TapedView.{counts_in, listens_in, mark_of};
 ghost use Rattle.mc_capture.specs.declared.record.TheConstants.{BYTES_MAX, KINDS};
@@ -79,7 +90,7 @@ fn add<O: Sink>(state: TapeState, kind: u8, k: u32, bytes: &[u8], out: &mut O) -
     ensures writes { Writes
         (record { state = state; held = O.held out.old; faults = O.faults out.old })
         (record { state = result; held = O.held out.new; faults = O.faults out.new })
-        (bytes_of kind k bytes.now) }
+        (record_with kind k bytes.now) }
 {
     if state == TapeState::Failed {
         return TapeState::Failed;
@@ -227,6 +238,8 @@ impl<'a, L: Lobby, O: Sink> Lobby for Taped<'a, L, O> {
         // The event's record is written; a call after the sink failed is not passed on.
         ensures writes { IfOk result (λ event. Writes (mark_of O.held O.faults self.old)
             (mark_of O.held O.faults self.new) (entry_bytes (event_entry event buf.new))) }
+        ensures size { IfOk result
+            (λ event. carried_by (event_entry event buf.new) ≤ BYTES_MAX) }
         ensures unwritten { OnErr result ((self.new.out ≡ self.old.out)
             × (self.new.state ≡ self.old.state)) }
         ensures after_fault { self.old.state ≡ TapeState.Failed →
@@ -265,6 +278,7 @@ impl<'a, L: Lobby, O: Sink> Lobby for Taped<'a, L, O> {
         // The record of what was taken is written.
         ensures writes { Writes (mark_of O.held O.faults self.old)
             (mark_of O.held O.faults self.new) (entry_bytes (wrote_entry result k piece.now)) }
+        ensures size { carried_by (wrote_entry result k piece.now) ≤ BYTES_MAX }
         ensures inner { NoneFalls (L.counts self.old.lobby.now) (L.counts self.new.lobby.now) }
         ensures lobby { self.new.lobby.ghost_name ≡ self.old.lobby.ghost_name }
         ensures out { self.new.out.ghost_name ≡ self.old.out.ghost_name }

@@ -1,5 +1,4 @@
 ghost use Rattle.std.specs.Prelude.{◌≡◌, ◌≢◌, ◌^◌, ◌<◌, ◌↔◌, true, false};
-ghost use Rattle.std.proofs.Props.{props};
 ghost use Rattle.mc_wire.specs.Count.{Rose};
 ghost use Rattle.mc_capture.specs.declared.tape_state.TapeState.TheVariants as states;
 ghost use Rattle.mc_capture.specs.Tape.{counts_with};
@@ -33,13 +32,17 @@ pub struct TapedSince<'a, L: Lobby, O: Sink, S: Started> {
     /// The taped lobby.
     pub taped: Taped<'a, L, O>,
     start: PhantomData<S>,
+    // The same lobby, and the same sink.
     pub ghost lobby: { taped.lobby.ghost_name ≡ S.start.lobby },
     pub ghost sink: { taped.out.ghost_name ≡ S.start.sink },
+    // What the sink got, which has the head from when it listens on.
     pub ghost tape: { IsTape S.start (L.told taped.lobby.now) (mark_of O.held O.faults taped) },
     pub ghost begun: { taped.heard ≡ true → taped.state ≢ states.Blank },
+    // What was counted.
     pub ghost faults: { ∥ FaultsSince S.start (mark_of O.held O.faults taped) ∥₁ },
     pub ghost own_faults: { taped.state ≢ states.Failed → taped.own_faults ≡ 0 },
-    pub ghost small: { S.start.counts.faults < 2 ^ 64 → (L.counts taped.lobby.now).faults < 2 ^ 64 },
+    pub ghost small: { S.start.counts.faults < 2 ^ 64 →
+        (L.counts taped.lobby.now).faults < 2 ^ 64 },
 }
 
 impl<'a, L: Lobby, O: Sink, S: Started> TapedSince<'a, L, O, S> {

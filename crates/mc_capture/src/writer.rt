@@ -1,8 +1,8 @@
 ghost use Rattle.std.specs.Prelude.{◌≡◌, ◌<◌, ◌≤◌, ℕ, length, take, OnOk, OnErr, IfErr};
 ghost use Rattle.mc_wire.specs.Count.{Rose, NeverFalls};
 ghost use Rattle.mc_wire.specs.Stream.{Grows};
-ghost use Rattle.mc_capture.specs.Grammar.{IsRecord, capture_head, most_bytes, record_bytes};
-ghost use Rattle.mc_capture.specs.Tape.{bytes_of};
+ghost use Rattle.mc_capture.specs.Grammar.{IsRecord, record_with, capture_head, most_bytes};
+ghost use Rattle.mc_capture.specs.Grammar.{record_bytes};
 ghost use Rattle.mc_capture.specs.declared.record.TheConstants.{KINDS};
 ghost use Rattle.mc_capture.specs.declared.fault.CaptureEnd.TheVariants as ends;
 
@@ -89,9 +89,9 @@ pub(crate) fn write_parts<O: Sink>(
     requires kind { kind < KINDS }
     requires size { length bytes.now ≤ most_bytes kind }
     ensures whole { OnOk result
-        (Grows (O.held out.old) (O.held out.new) (bytes_of kind connection bytes.now)) }
+        (Grows (O.held out.old) (O.held out.new) (record_with kind connection bytes.now)) }
     ensures part { OnErr result ((n : ℕ) ×
-        Grows (O.held out.old) (O.held out.new) (take n (bytes_of kind connection bytes.now))) }
+        Grows (O.held out.old) (O.held out.new) (take n (record_with kind connection bytes.now))) }
     ensures failed { OnErr result (Rose (O.faults out.old) (O.faults out.new)) }
     ensures counts { NeverFalls (O.faults out.old) (O.faults out.new) }
 {

@@ -1,9 +1,9 @@
 //! Taped lobbies: `taped EVENTS TROUBLES FAILS STEP ..` makes a lobby in memory that gives these
-//! events, tapes it into a sink whose writes with these numbers fail, and listens. `EVENTS` is `-` or
-//! entries with commas between them: `joined=K`, `came=K:BYTES`, `left=K` and `ticked`. `TROUBLES` is
-//! `-` or some of `listen`, `next=I`, `stall=I`, `break=I` and `short=I:N`. A step is `listen`, `next`
-//! with room for 70,000 bytes, `write K BYTES` or `close K`. What the sink holds follows, and whether
-//! it failed.
+//! events, tapes it into a sink whose writes with these numbers fail, and listens. `EVENTS` is `-`
+//! or entries with commas between them: `joined=K`, `came=K:BYTES`, `left=K` and `ticked`.
+//! `TROUBLES` is `-` or some of `listen`, `next=I`, `stall=I`, `break=I` and `short=I:N`. A step is
+//! `listen`, `next` with room for 70,000 bytes, `write K BYTES` or `close K`. What follows is
+//! whether the sink is sound or broken, and what it holds.
 
 ghost use Rattle.std.specs.Prelude.{◌≡◌, ℕ, List, Some, true, false};
 ghost use Rattle.mc_wire.specs.LobbyTold.{LobbyTold};

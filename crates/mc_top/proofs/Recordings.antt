@@ -4,6 +4,7 @@ use Rattle.std.proofs.Common.{◌≡◌, ◌≢◌, ℕ, ◌+◌, ◌-◌, inl, 
 use Rattle.std.proofs.Common.{◌++◌, length, take, Option, Some, None, Result, Ok, Err, refl, sym, ap}
 use Rattle.std.proofs.Common.{◌∙◌, arith}
 use Rattle.std.proofs.lemmas.Bool.Decides.{nat_tests}
+use Rattle.std.specs.Prelude.{◌↔◌}
 use Rattle.std.proofs.lemmas.List.{append-nil, length-append, take_all}
 use Rattle.mc_wire.specs.declared.answers.Pace.{Pace}
 use Rattle.mc_wire.specs.declared.log.LogEntry.{LogEntry}
@@ -14,7 +15,7 @@ use Rattle.mc_wire.specs.LobbyTold.{LobbyTold, with_entries, with_pace, with_por
 use Rattle.mc_capture.specs.declared.tape_state.TapeState.{TapeState}
 use Rattle.mc_capture.specs.declared.tape_state.TapeState.TheVariants as states
 use Rattle.mc_capture.specs.Tape.{TapeMark, tape}
-use Rattle.mc_capture.specs.TapeStart.{IsTape, TapeStart, added, written}
+use Rattle.mc_capture.specs.TapeStart.{FaultsSince, IsTape, TapeStart, added, written}
 use Rattle.mc_model.specs.Minds.{Plans}
 use Rattle.mc_server.specs.declared.service.Budget.{Budget}
 use Rattle.mc_server.specs.declared.service.DriveFault.{DriveFault}
@@ -207,15 +208,43 @@ module _ (plans : Plans) (options : ServeOptions) (old paced new : Option LobbyT
       by false (Err NoMemory) d lost broke all =
           (inr (Err NoMemory, served (Err NoMemory) d), partly (Err NoMemory) d)
 
--- the devices at the end are as they were found in the lobby that was taped
-pub recorded_as : (plans : Plans) (options : ServeOptions) (how : Ended) (old new new' : Option LobbyTold)
-    (counts counts' counts'' : LobbyCounts) (link : LinkDevice) (left : Option (List ℕ)) (reads : ℕ)
-    (held held' held'' : Option (List ℕ)) (writes writes' writes'' : ℕ) → new' ≡ new →
-    counts'' ≡ counts' → held'' ≡ held' → writes'' ≡ writes' →
+-- it was false, so it was not true
+not_true : (b : Bool) → b ≡ false → b ≡ true → ⊥
+not_true b is not = cc
+
+-- all of it, from what the taped lobby says
+pub records : (plans : Plans) (options : ServeOptions) (start : TapeStart) (mark : TapeMark)
+    (old new : Option LobbyTold) (counts counts' : LobbyCounts) (link : LinkDevice)
+    (left : Option (List ℕ)) (reads : ℕ) (budget : Budget) (failed : Bool)
+    (end : Result drives.Ended DriveFault) (server : ServerValue) →
+    ToldBecomes old start.told (with_pace options.pace) →
+    NeverFalls counts.faults start.counts.faults → budget ≡ budget_of options →
+    DroveNew budget start.told new (start_of plans options.world) server end →
+    ((entries : List LogEntry) × ToldBecomes start.told new
+    (λ told. with_entries entries (with_port budget.port told))) →
+    (mark.state ≢ states.Failed → IsLost end → Rose start.counts.faults counts'.faults) →
+    IsTape start new mark → FaultsSince start mark → (failed ≡ true) ↔ (mark.state ≡ states.Failed) →
+    Records plans options (ended_recording failed end)
+    (devices old counts link left reads start.held start.faults)
+    (devices new counts' link left reads mark.held mark.faults)
+records plans options start mark old new counts counts' link left reads budget failed end server paces
+    falls is drove asks lost tape_ faults told =
+    recorded_by plans options old start.told new counts start.counts counts' link left reads
+    start.held mark.held start.faults mark.faults paces budget is falls failed end server drove
+    (λ no. lost (λ state. not_true failed no (told.1 state))) (λ yes. faults.0 (told.0 yes))
+    (λ no. taped_all start new mark budget.port asks.0 tape_ asks.1
+    (λ state. not_true failed no (told.1 state))) (taped_part start new mark tape_)
+
+-- the devices as they were found in the lobby that was taped
+pub records_as : (plans : Plans) (options : ServeOptions) (how how' : Ended)
+    (old new new' : Option LobbyTold) (counts counts' counts'' : LobbyCounts) (link : LinkDevice)
+    (left : Option (List ℕ)) (reads : ℕ) (first held held' held'' : Option (List ℕ))
+    (none writes writes' writes'' : ℕ) → how' ≡ how → new' ≡ new → counts'' ≡ counts' →
+    first ≡ held → held'' ≡ held' → none ≡ writes → writes'' ≡ writes' →
     Records plans options how (devices old counts link left reads held writes)
     (devices new counts' link left reads held' writes') →
-    Records plans options how (devices old counts link left reads held writes)
+    Records plans options how' (devices old counts link left reads first none)
     (devices new' counts'' link left reads held'' writes'')
-recorded_as plans options how old new new' counts counts' counts'' link left reads held held' held''
-    writes writes' writes'' told counted there faults said =
-    rw (told, counted, there, faults) said
+records_as plans options how how' old new new' counts counts' counts'' link left reads first held held'
+    held'' none writes writes' writes'' ends told counted before there faults rose said =
+    rw (ends, told, counted, before, there, faults, rose) said

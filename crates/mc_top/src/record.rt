@@ -1,4 +1,4 @@
-ghost use Rattle.std.specs.Prelude.{◌≡◌, ◌≢◌, ◌<◌, ◌≤◌, ◌×◌, ◌^◌, ℕ, List, Option, map, false};
+ghost use Rattle.std.specs.Prelude.{◌≡◌, ◌≢◌, ◌<◌, ◌≤◌, ◌^◌, ℕ, List, Option, map, false};
 ghost use Rattle.mc_wire.specs.declared.log.LogEntry.{LogEntry};
 ghost use Rattle.mc_wire.specs.Becoming.{ToldBecomes};
 ghost use Rattle.mc_wire.specs.Count.{Rose};

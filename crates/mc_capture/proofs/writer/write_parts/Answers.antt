@@ -8,7 +8,8 @@ pub returns-in_err-write_all-clause-part : goal.returns-in_err-write_all-clause-
 returns-in_err-write_all-clause-part g c =
     let p = err_from_is_err_and c.from_residual.result c.from_residual.ensures.1 in
     let part = c.in_err-write_all.ensures.part in
-    rw p.1 (part_of_first part.0 (heading c.args.kind c.args.connection (length c.args.bytes.now)) c.args.bytes.now _ _
+    let front = heading c.args.kind c.args.connection (length c.args.bytes.now) in
+    rw p.1 (part_of_first part.0 front c.args.bytes.now _ _
     (search rules))
 
 pub returns-in_err-write_all-2-clause-part : goal.returns-in_err-write_all-2-clause-part
@@ -16,6 +17,7 @@ returns-in_err-write_all-2-clause-part g c =
     let p = err_from_is_err_and c.from_residual-in_err-write_all-2.result
     c.from_residual-in_err-write_all-2.ensures.1 in
     let part = c.in_err-write_all-2.ensures.part in
-    rw p.1 (part_of_second part.0 (heading c.args.kind c.args.connection (length c.args.bytes.now)) c.args.bytes.now
+    let front = heading c.args.kind c.args.connection (length c.args.bytes.now) in
+    rw p.1 (part_of_second part.0 front c.args.bytes.now
     (g.O.Sink.held c.args.out.now) (g.O.Sink.held c.write_all.new.sink)
     (g.O.Sink.held c.write_all-2.new.sink) (search rules) (search rules))
