@@ -1,7 +1,7 @@
 -- Reads of a link one after another, until a whole frame is there.
-use Rattle.std.proofs.Common.{◌≡◌, ℕ, ◌+◌, ◌-◌, ◌*◌, ◌^◌, ◌<◌, ◌≤◌, ◌⊎◌, inl, inr, true, false, List, []}
-use Rattle.std.proofs.Common.{◌++◌, length, take, Option, Some, None, Result, Ok, Err, refl, sym}
-use Rattle.std.proofs.Common.{subst, ap, ◌∙◌, arith, append_assoc}
+use Rattle.std.proofs.Common.{◌≡◌, ℕ, ◌+◌, ◌-◌, ◌*◌, ◌^◌, ◌<◌, ◌≤◌, ◌⊎◌, inl, inr}
+use Rattle.std.proofs.Common.{List, [], ◌++◌, length, take, Option, Some, None, Ok, Err}
+use Rattle.std.proofs.Common.{refl, sym, subst, ap, ◌∙◌, arith, append_assoc}
 use Rattle.std.specs.Prelude.{min}
 use Rattle.std.proofs.lemmas.List.{append-nil, length-append, length-take, take_all}
 use Rattle.mc_bytes.specs.Reading.{IsBytes}
@@ -43,8 +43,9 @@ fed_whole old new piece count fine room fed =
     let all : take count piece ≡ piece = take_all count piece (omega (arith, counted)) in
     let is : new ≡ holding old piece = fed.held ∙ ap (λ (l : List ℕ).
     record old { held = old.held ++ l }) all in
-    let held : length new.held ≤ held_max = rw is (omega (arith, room, length-append old.held piece))
-    in (is, held)
+    let held : length new.held ≤ held_max =
+    rw is (omega (arith, room, length-append old.held piece)) in
+    (is, held)
   where
     step : (fault : Option FrameFault) → fault ≡ None →
         count ≡ min (length piece) (room_for fault old.held) →

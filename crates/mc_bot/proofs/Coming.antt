@@ -1,8 +1,7 @@
 -- Steps of a bot behind one another.
-use Rattle.std.proofs.Common.{◌≡◌, ℕ, zero, suc, ◌+◌, ◌-◌, ◌^◌, ◌<◌, List, [], ◌∷◌, ◌++◌, length, Option, Some, take, drop}
-use Rattle.std.proofs.Common.{None, Ok, Err, refl, sym, subst, ap, ◌∙◌, arith, append_assoc}
-use Rattle.std.specs.Prelude.{min}
-use Rattle.std.proofs.lemmas.Bool.Decides.{nat_tests}
+use Rattle.std.proofs.Common.{◌≡◌, ℕ, zero, suc, ◌+◌, List, [], ◌∷◌, ◌++◌, length}
+use Rattle.std.proofs.Common.{take, drop, Option, Some, None, Ok, Err, refl, sym, subst}
+use Rattle.std.proofs.Common.{ap, ◌∙◌, arith, append_assoc}
 use Rattle.std.proofs.lemmas.List.{length-append, append-nil, take-append-drop}
 use Rattle.mc_bytes.specs.Reading.{IsBytes}
 use Rattle.mc_frame.specs.declared.fault.FrameFault.{FrameFault}
@@ -13,9 +12,9 @@ use Rattle.mc_wire.specs.LinkTold.{LinkTold, Exchanges}
 use Rattle.mc_bot.specs.declared.bot_fault.BotFault.{BotFault}
 use Rattle.mc_bot.specs.declared.bot_fault.BotFault.TheVariants as faults
 use Rattle.mc_bot.specs.Arriving.{HasPassed}
-use Rattle.mc_bot.specs.Playing.{Bot, Course, goes, ends, then_play, all_sent}
+use Rattle.mc_bot.specs.Playing.{Bot, Course, goes, then_play}
 use Rattle.mc_bot.specs.Played.{FailsAs, HasSent}
-use Rattle.mc_bot.specs.Steps.{Standing, Keeping, Frames, HasCome, HasFailed, bot_at}
+use Rattle.mc_bot.specs.Steps.{Standing, Frames, HasCome, HasFailed, bot_at}
 use Rattle.mc_bot.proofs.Growing.{Keeps, then_keeps}
 
 -- ---- what the link tells

@@ -1,10 +1,9 @@
 -- The whole play, over all that the link gave.
-use Rattle.std.proofs.Common.{◌≡◌, ℕ, ◌+◌, ◌<◌, List, [], ◌∷◌, ◌++◌, length, Option, Some, None}
-use Rattle.std.proofs.Common.{Result, Ok, Err, refl, sym, subst, ap, ◌∙◌, arith, append_assoc}
+use Rattle.std.proofs.Common.{◌≡◌, ℕ, ◌+◌, List, [], ◌∷◌, ◌++◌, length, Option, None}
+use Rattle.std.proofs.Common.{Result, Ok, Err, sym, subst, ap, ◌∙◌, arith}
 use Rattle.std.proofs.Common.{inl, inr, ◌⊎◌}
 use Rattle.mc_fields.specs.Row.{packet_read, packet_of}
 use Rattle.mc_hello.specs.LoginDown as login_down
-use Rattle.mc_frame.specs.declared.fault.FrameFault.{FrameFault}
 use Rattle.mc_frame.specs.Cut.{Cut, IsCut, IsCutAt}
 use Rattle.mc_frame.proofs.AnyPieces.{behind}
 use Rattle.mc_frame.proofs.Cuts.{cut_exists}
@@ -22,8 +21,9 @@ use Rattle.mc_bot.specs.BotFaults.{fault_of_dump}
 use Rattle.mc_bot.specs.Played.{IsBegun, FailsAs, RunsAs, HasRun, HasPlayedScript, EndsAs, DumpsAs}
 use Rattle.mc_bot.specs.Played.{PlayStart, PlayLeft}
 use Rattle.mc_bot.specs.Playing.{SeerRules, Bot, Course, ends, ended_with, all_sent, ahead_of}
-use Rattle.mc_bot.specs.Playing.{logged_by, then_play, logged_in, lines_played, played_out, hello, bot_begun}
-use Rattle.mc_bot.specs.Steps.{Standing, HasCome, HasFailed, IsStep, CanGoOn, not_logged_in, bot_at}
+use Rattle.mc_bot.specs.Playing.{logged_by, then_play, logged_in, lines_played, played_out, hello}
+use Rattle.mc_bot.specs.Playing.{bot_begun}
+use Rattle.mc_bot.specs.Steps.{IsStep, not_logged_in, bot_at}
 use Rattle.mc_bot.specs.Steps.{left_off, Keeping, Frames}
 use Rattle.mc_bot.proofs.Coming.{then_exchanged}
 use Rattle.mc_bot.proofs.Growing.{begun_all, begun_trans, then_keeps, frame_keeps, logged_keeps}
@@ -106,7 +106,8 @@ run_steps {S} start left_ told keeping (Ok done) first step =
       exchanged = then_exchanged start.told told left_.told (start.port ∷ []) []
           (hello start.script.name start.port) one.given one.sent first one.exchanged;
       ended = λ cut is.
-          let b = cut_behind one.given one.frames keeping.incoming.splitting.held cut one.cut is in (
+          let held = keeping.incoming.splitting.held in
+          let b = cut_behind one.given one.frames held cut one.cut is in (
             ap (λ (frames : List (List ℕ)). logged_lines start.rules start.script.lines
                 (bot_at (record {
                   seen = start.seen;
@@ -163,8 +164,9 @@ run_dumped start left_ untouched run grows =
     }
 
 pub run_undumped : {S : Type 0} (start : PlayStart S) (left_ : PlayLeft S) (untouched : Type 0)
-    (dump : DumpFault) → HasRun (record start { held = None }) (record left_ { held = None }) (Ok tt)
-    → SendsPart start.held left_.held (start.rules.dumps left_.seen) →
+    (dump : DumpFault) →
+    HasRun (record start { held = None }) (record left_ { held = None }) (Ok tt) →
+    SendsPart start.held left_.held (start.rules.dumps left_.seen) →
     HasPlayedScript start left_ untouched (Err (fault_of_dump dump))
 run_undumped start left_ untouched dumps.Write run part =
     let c = cut_of (record start { held = None }) (record left_ { held = None }) (Ok tt) run in

@@ -1,6 +1,6 @@
 -- What a bot has sent stays sent, whatever comes behind.
-use Rattle.std.proofs.Common.{◌≡◌, ℕ, zero, suc, Bool, true, false, List, [], ◌∷◌, ◌++◌, Option, Some}
-use Rattle.std.proofs.Common.{None, Result, Ok, Err, refl, sym, ap, ◌∙◌, append_assoc}
+use Rattle.std.proofs.Common.{ℕ, zero, suc, Bool, true, false, List, [], ◌∷◌, ◌++◌, Option}
+use Rattle.std.proofs.Common.{Some, None, Result, Ok, Err, refl, sym, ap, ◌∙◌, append_assoc}
 use Rattle.std.specs.Prelude.{if◌then◌else◌}
 use Rattle.std.proofs.lemmas.List.{append-nil}
 use Rattle.mc_bytes.specs.declared.fault.FieldFault.{FieldFault}
@@ -9,7 +9,6 @@ use Rattle.mc_fields.specs.declared.position.Cell.{Cell}
 use Rattle.mc_fields.specs.Row.{packet_read, packet_of}
 use Rattle.mc_hello.specs.declared.login_down.LoginDown.{LoginDown}
 use Rattle.mc_hello.specs.declared.login_down.LoginDown.TheVariants as login
-use Rattle.mc_hello.specs.LoginDown as login_down
 use Rattle.mc_packets.specs.declared.down.Down.{Down}
 use Rattle.mc_packets.specs.Down as play
 use Rattle.mc_bot.specs.declared.act.Act.{Act}
@@ -17,7 +16,7 @@ use Rattle.mc_bot.specs.declared.act.Act.TheVariants as acts
 use Rattle.mc_bot.specs.declared.act.Line.{Line}
 use Rattle.mc_bot.specs.Played.{IsBegun}
 use Rattle.mc_bot.specs.Playing.{SeerRules, Bot, Course, goes, ends, then_play, with_frame}
-use Rattle.mc_bot.specs.Playing.{logged_by, logged_in, farewell, taken_if, taken_by, packet_taken}
+use Rattle.mc_bot.specs.Playing.{logged_by, farewell, taken_if, taken_by, packet_taken}
 use Rattle.mc_bot.specs.Playing.{packets_taken, is_state, taken_until, compared, line_played}
 use Rattle.mc_bot.specs.Playing.{lines_played, all_sent}
 

@@ -1,5 +1,5 @@
 -- What a bot sends first has bytes, and a frame has room for it.
-use Rattle.std.proofs.Common.{◌≡◌, ℕ, ◌^◌, ◌<◌, List, refl, lit<, lit≤, arith}
+use Rattle.std.proofs.Common.{ℕ, ◌^◌, ◌<◌, List, refl, lit<, lit≤, arith}
 use Rattle.std.specs.Prelude.{codes}
 use lib.IntN.{pos}
 use Rattle.mc_fields.specs.RowLaws.{fits_spelled}

@@ -1,6 +1,6 @@
 -- What a line comes to, and lines behind one another.
-use Rattle.std.proofs.Common.{◌≡◌, ℕ, zero, suc, ◌+◌, ◌-◌, ◌<◌, Bool, true, false, List, [], ◌∷◌}
-use Rattle.std.proofs.Common.{◌++◌, Option, Some, None, Result, Ok, Err, refl}
+use Rattle.std.proofs.Common.{◌≡◌, ℕ, zero, suc, ◌-◌, ◌<◌, ◌≤◌, Bool, true, false, List, []}
+use Rattle.std.proofs.Common.{◌∷◌, ◌++◌, Option, Some, None, Result, Ok, Err, refl}
 use Rattle.std.proofs.Common.{sym, subst, ap, ◌∙◌, arith, append_assoc}
 use Rattle.std.proofs.lemmas.List.{append-nil}
 use lib.IntN.{ℤ}
@@ -26,37 +26,69 @@ use Rattle.mc_bot.specs.Playing.{farewell, is_state, compared, number_past, with
 use Rattle.mc_bot.specs.Playing.{is_leaving, line_played, lines_played, all_sent}
 use Rattle.mc_bot.specs.Steps.{Keeping, Standing, HasCome, HasFailed, CanGoOn, ComparedAs, bot_at}
 use Rattle.mc_bot.specs.Steps.{IsStep, left_off}
-use Rattle.mc_bot.proofs.Coming.{no_exchange, no_frames}
+use Rattle.mc_bot.proofs.Coming.{no_exchange, no_frames, come_none}
 use Rattle.mc_bot.proofs.Coming.{then_come, then_fail, fails_then}
 use Rattle.mc_bot.proofs.Growing.{packets_keep, until_keeps, lines_keep, begun_more}
 
+-- ---- nothing is read or sent
+
+-- two plays that are one, where a bot stands so
+pub come_same : {S : Type 0} (play rest : Bot S → Course S) (a : Standing S) →
+    ((bot : Bot S) → bot.seen ≡ a.seen → play bot ≡ rest bot) → HasCome play rest a a
+come_same {S} play rest a same = record {
+  given = [];
+  frames = [];
+  sent = [];
+  exchanged = no_exchange a.told;
+  cut = no_frames a.keeping.incoming.splitting.held;
+  before = omega arith;
+  patience = refl;
+  course = λ later fault ended first. same (bot_at a later fault ended first) refl
+      ∙ ap (λ (sent : List ℕ). rest (bot_at a later fault ended sent)) (sym (append-nil first));
+}
+
+-- a play that fails where a bot stands so
+fail_same : {S : Type 0} (play : Bot S → Course S) (a : Standing S) (stage : LinkStage)
+    (fault : BotFault) → ((bot : Bot S) → bot.seen ≡ a.seen →
+    FailsAs (play bot) bot.sent a.keeping.incoming.patience stage.quiet_run fault) →
+    HasFailed play a a.told stage fault
+fail_same {S} play a stage fault fails = record {
+  given = [];
+  frames = [];
+  sent = [];
+  left_ = a.keeping.incoming.splitting.held;
+  exchanged = no_exchange a.told;
+  cut = no_frames a.keeping.incoming.splitting.held;
+  course = λ cut first is.
+      rw (append-nil first) (fails (bot_at a cut.frames cut.fault stage.ended first) refl);
+}
+
 -- ---- so many packets
 
-pub one_fewer : {S : Type 0} (rules : SeerRules S) (left_ : ℕ) (a b : Standing S) → 0 < left_ →
+pub one_fewer : {S : Type 0} (rules : SeerRules S) {left_ : ℕ} {a b : Standing S} → 0 < left_ →
     HasCome (packet_taken rules) goes a b →
     HasCome (packets_taken rules left_) (packets_taken rules (left_ - 1)) a b
 unfolding packets_taken
-one_fewer rules zero a b some one = absurd (omega (arith, some))
-one_fewer rules (suc n) a b some one =
+one_fewer rules {left_ = zero} some one = absurd (omega (arith, some))
+one_fewer rules {left_ = suc n} {a} {b} some one =
     let same : suc n - 1 ≡ n = omega arith in
     rw same (then_come (packet_taken rules) (packets_taken rules n) a b one)
 
-pub one_fails : {S : Type 0} (rules : SeerRules S) (left_ : ℕ) (a : Standing S)
-    (told : Option LinkTold) (stage : LinkStage) (fault : BotFault) → 0 < left_ →
+pub one_fails : {S : Type 0} (rules : SeerRules S) {left_ : ℕ} {a : Standing S}
+    {told : Option LinkTold} {stage : LinkStage} {fault : BotFault} → 0 < left_ →
     HasFailed (packet_taken rules) a told stage fault →
     HasFailed (packets_taken rules left_) a told stage fault
 unfolding packets_taken
-one_fails rules zero a told stage fault some one = absurd (omega (arith, some))
-one_fails rules (suc n) a told stage fault some one =
+one_fails rules {left_ = zero} some one = absurd (omega (arith, some))
+one_fails rules {left_ = suc n} {a} {told} {stage} {fault} some one =
     then_fail (packet_taken rules) (packets_taken rules n) a told stage fault
     (packets_keep rules n) one
 
-pub none_more : {S : Type 0} (rules : SeerRules S) (play : Bot S → Course S) (left_ : ℕ)
-    (a b : Standing S) → left_ ≡ 0 → HasCome play (packets_taken rules left_) a b →
-    HasCome play goes a b
+pub none_left : {S : Type 0} (rules : SeerRules S) {left_ : ℕ} {a : Standing S} → left_ ≤ 0 →
+    HasCome (packets_taken rules left_) goes a a
 unfolding packets_taken
-none_more rules play left_ a b is come =
-    let P : ℕ → Type 0 = λ n. HasCome play (packets_taken rules n) a b in subst P is come
+none_left rules {left_ = zero} {a} none = come_none goes a
+none_left rules {left_ = suc n} none = absurd (omega (arith, none))
 
 -- ---- packets until a cell has a state
 
@@ -105,10 +137,10 @@ until_next rules cell state bot q other taken =
     let first = took_first rules bot.ahead.frames bot q taken in
     until_frames rules cell state bot.ahead.frames first.0 bot q other taken first.1
 
-pub until_comes : {S : Type 0} (rules : SeerRules S) (cell : Cell) (state : ℕ) (a b : Standing S) →
+pub until_comes : {S : Type 0} (rules : SeerRules S) (cell : Cell) (state : ℕ) {a b : Standing S} →
     is_state (rules.block_at a.seen cell) state ≡ false → HasCome (packet_taken rules) goes a b →
     HasCome (until rules cell state) (until rules cell state) a b
-until_comes {S} rules cell state a b other one = record {
+until_comes {S} rules cell state {a} {b} other one = record {
   given = one.given;
   frames = one.frames;
   sent = one.sent;
@@ -138,12 +170,12 @@ until_stays rules cell state [] bot other =
 until_stays rules cell state (frame ∷ frames) bot other =
     (taken_until rules cell state frames, (rw other refl, until_keeps rules cell state frames))
 
-pub until_fails : {S : Type 0} (rules : SeerRules S) (cell : Cell) (state : ℕ) (a : Standing S)
-    (told : Option LinkTold) (stage : LinkStage) (fault : BotFault) →
+pub until_fails : {S : Type 0} (rules : SeerRules S) (cell : Cell) (state : ℕ) {a : Standing S}
+    {told : Option LinkTold} {stage : LinkStage} {fault : BotFault} →
     is_state (rules.block_at a.seen cell) state ≡ false →
     HasFailed (packet_taken rules) a told stage fault →
     HasFailed (until rules cell state) a told stage fault
-until_fails {S} rules cell state a told stage fault other one = record {
+until_fails {S} rules cell state {a} {told} {stage} {fault} other one = record {
   given = one.given;
   frames = one.frames;
   sent = one.sent;
@@ -160,21 +192,11 @@ until_fails {S} rules cell state a told stage fault other one = record {
 }
 
 -- where the cell has the state already
-pub until_done : {S : Type 0} (rules : SeerRules S) (cell : Cell) (state : ℕ) (a : Standing S) →
+pub until_done : {S : Type 0} (rules : SeerRules S) (cell : Cell) (state : ℕ) {a : Standing S} →
     is_state (rules.block_at a.seen cell) state ≡ true → HasCome (until rules cell state) goes a a
 unfolding taken_until
-until_done {S} rules cell state a is = record {
-  given = [];
-  frames = [];
-  sent = [];
-  exchanged = no_exchange a.told;
-  cut = no_frames a.keeping.incoming.splitting.held;
-  before = omega arith;
-  patience = refl;
-  course = λ later fault ended first.
-      shown later (bot_at a later fault ended first) is
-      ∙ ap (λ (sent : List ℕ). goes (bot_at a later fault ended sent)) (sym (append-nil first));
-}
+until_done {S} rules cell state {a} is =
+    come_same (until rules cell state) goes a (λ bot same. shown bot.ahead.frames bot (rw same is))
   where
     shown : (frames : List (List ℕ)) (bot : Bot S) →
         is_state (rules.block_at bot.seen cell) state ≡ true →
@@ -191,34 +213,20 @@ comparing rules line cell want bot = compared line want (rules.block_at bot.seen
 pub compared_comes : {S : Type 0} (rules : SeerRules S) (line : ℕ) (cell : Cell) (want : ℕ)
     (a : Standing S) → is_state (rules.block_at a.seen cell) want ≡ true →
     HasCome (comparing rules line cell want) goes a a
-compared_comes {S} rules line cell want a is = record {
-  given = [];
-  frames = [];
-  sent = [];
-  exchanged = no_exchange a.told;
-  cut = no_frames a.keeping.incoming.splitting.held;
-  before = omega arith;
-  patience = refl;
-  course = λ later fault ended first. rw (is, append-nil first) refl;
-}
+compared_comes rules line cell want a is =
+    come_same (comparing rules line cell want) goes a (λ bot same. rw (same, is) refl)
 
 pub compared_fails : {S : Type 0} (rules : SeerRules S) (line : ℕ) (cell : Cell) (want : ℕ)
     (a : Standing S) (stage : LinkStage) → CanGoOn a.keeping stage →
     is_state (rules.block_at a.seen cell) want ≡ false →
     HasFailed (comparing rules line cell want) a a.told stage
     (faults.Expect line want (rules.block_at a.seen cell))
-compared_fails {S} rules line cell want a stage goes_on other =
+compared_fails rules line cell want a stage goes_on other =
     let run = goes_on.goes.run in
     let few = goes_on.patient in
-    record {
-      given = [];
-      frames = [];
-      sent = [];
-      left_ = a.keeping.incoming.splitting.held;
-      exchanged = no_exchange a.told;
-      cut = no_frames a.keeping.incoming.splitting.held;
-      course = λ cut first is. (rw (other, append-nil first) refl, omega (arith, run, few));
-    }
+    fail_same (comparing rules line cell want) a stage
+    (faults.Expect line want (rules.block_at a.seen cell))
+    (λ bot same. (rw (same, other) refl, omega (arith, run, few)))
 
 -- ---- packets are asked for
 
@@ -256,15 +264,8 @@ acted_comes {S} rules act a seen bytes told asked exchanged = record {
 
 pub act_lost : {S : Type 0} (rules : SeerRules S) (act : Act) (a : Standing S)
     (stage : LinkStage) → HasFailed (acting rules act) a a.told stage faults.NoMemory
-act_lost {S} rules act a stage = record {
-  given = [];
-  frames = [];
-  sent = [];
-  left_ = a.keeping.incoming.splitting.held;
-  exchanged = no_exchange a.told;
-  cut = no_frames a.keeping.incoming.splitting.held;
-  course = λ cut first is. rw (append-nil first) (begun_more first (asked_for rules act a).bytes);
-}
+act_lost rules act a stage = fail_same (acting rules act) a stage faults.NoMemory
+    (λ bot same. begun_more bot.sent _)
 
 pub act_fails : {S : Type 0} (rules : SeerRules S) (act : Act) (a : Standing S) (seen : S)
     (bytes : List ℕ) (told : Option LinkTold) (stage : LinkStage) (fault : BotFault) →
@@ -321,19 +322,18 @@ act_goes_on keeping number stage stage' goes_on same =
 
 -- ---- a line
 
-pub other_line : {S : Type 0} (rules : SeerRules S) (line : ℕ) (act : Act)
-    (P : (Bot S → Course S) → Type 0) → is_leaving act ≡ false →
-    ((n : ℕ) → act ≡ acts.Wait n → ⊥) →
+pub other_line : {S : Type 0} (rules : SeerRules S) (line : ℕ) (act : Act) →
+    is_leaving act ≡ false → ((n : ℕ) → act ≡ acts.Wait n → ⊥) →
     ((cell : Cell) (state : ℕ) → act ≡ acts.Until cell state → ⊥) →
     ((cell : Cell) (state : ℕ) → act ≡ acts.Expect cell state → ⊥) →
-    P (acting rules act) → P (line_played rules line act)
-other_line rules line (acts.Wait n) P stays no_wait no_until no_expect p = absurd (no_wait n refl)
-other_line rules line (acts.Until cell state) P stays no_wait no_until no_expect p =
+    line_played rules line act ≡ acting rules act
+other_line rules line (acts.Wait n) stays no_wait no_until no_expect = absurd (no_wait n refl)
+other_line rules line (acts.Until cell state) stays no_wait no_until no_expect =
     absurd (no_until cell state refl)
-other_line rules line (acts.Expect cell state) P stays no_wait no_until no_expect p =
+other_line rules line (acts.Expect cell state) stays no_wait no_until no_expect =
     absurd (no_expect cell state refl)
-other_line rules line acts.Leave P stays no_wait no_until no_expect p = absurd cc
-other_line rules line act P stays no_wait no_until no_expect p = p
+other_line rules line acts.Leave stays no_wait no_until no_expect = absurd cc
+other_line rules line act stays no_wait no_until no_expect = refl
 
 pub wait_line : {S : Type 0} (rules : SeerRules S) (line : ℕ) (act : Act) (n : ℕ)
     (a b : Standing S) (stage : LinkStage) (result : Result (Unit {0}) BotFault) →
@@ -373,56 +373,42 @@ expect_line {S} rules line act cell want a stage result is goes_on compared_ =
 
 -- ---- lines
 
--- two plays that are one
-pub come_same : {S : Type 0} (play rest : Bot S → Course S) (a : Standing S) →
-    ((bot : Bot S) → play bot ≡ rest bot) → HasCome play rest a a
-come_same {S} play rest a same = record {
-  given = [];
-  frames = [];
-  sent = [];
-  exchanged = no_exchange a.told;
-  cut = no_frames a.keeping.incoming.splitting.held;
-  before = omega arith;
-  patience = refl;
-  course = λ later fault ended first. same (bot_at a later fault ended first)
-      ∙ ap (λ (sent : List ℕ). rest (bot_at a later fault ended sent)) (sym (append-nil first));
-}
-
-pub line_comes : {S : Type 0} (rules : SeerRules S) (line : Line) (lines left_ : List Line)
-    (a b : Standing S) → left_ ≡ line ∷ lines →
+pub line_comes : {S : Type 0} (rules : SeerRules S) {line : Line} {lines left_ : List Line}
+    {a b : Standing S} → left_ ≡ line ∷ lines →
     HasCome (line_played rules line.number line.act) goes a b →
     HasCome (lines_played rules left_) (lines_played rules lines) a b
 unfolding lines_played
-line_comes {S} rules line lines left_ a b is one =
+line_comes rules {line} {lines} {a} {b} is one =
     let P : List Line → Type 0 = λ l. HasCome (lines_played rules l) (lines_played rules lines) a b
     in
     subst P (sym is) (then_come (line_played rules line.number line.act)
     (lines_played rules lines) a b one)
 
-pub line_fails : {S : Type 0} (rules : SeerRules S) (line : Line) (lines left_ : List Line)
-    (a : Standing S) (told : Option LinkTold) (stage : LinkStage) (fault : BotFault) →
+pub line_fails : {S : Type 0} (rules : SeerRules S) {line : Line} {lines left_ : List Line}
+    {a : Standing S} {told : Option LinkTold} {stage : LinkStage} {fault : BotFault} →
     left_ ≡ line ∷ lines →
     HasFailed (line_played rules line.number line.act) a told stage fault →
     HasFailed (lines_played rules left_) a told stage fault
 unfolding lines_played
-line_fails {S} rules line lines left_ a told stage fault is one =
+line_fails rules {line} {lines} {a} {told} {stage} {fault} is one =
     let P : List Line → Type 0 = λ l. HasFailed (lines_played rules l) a told stage fault in
     subst P (sym is) (then_fail (line_played rules line.number line.act)
     (lines_played rules lines) a told stage fault (lines_keep rules lines) one)
 
-pub line_leaves : {S : Type 0} (rules : SeerRules S) (line : Line) (lines left_ : List Line)
-    (a : Standing S) → left_ ≡ line ∷ lines → is_leaving line.act ≡ true →
+pub line_leaves : {S : Type 0} (rules : SeerRules S) {line : Line} {lines left_ : List Line}
+    {a : Standing S} → left_ ≡ line ∷ lines → is_leaving line.act ≡ true →
     HasCome (lines_played rules left_) left_off a a
 unfolding lines_played
-line_leaves {S} rules line lines left_ a is leaves =
-    come_same (lines_played rules left_) left_off a (λ bot. rw is (leaving line.act bot leaves))
+line_leaves {S} rules {line} {lines} {left_} {a} is leaves = come_same (lines_played rules left_)
+    left_off a (λ bot same. rw is (leaving line.act bot leaves))
   where
     leaving : (act : Act) (bot : Bot S) → is_leaving act ≡ true →
         then_play (line_played rules line.number act bot) (lines_played rules lines) ≡ left_off bot
     leaving acts.Leave bot leaves = refl
     leaving act bot leaves = absurd cc
 
-pub no_line : {S : Type 0} (rules : SeerRules S) (left_ : List Line) (a : Standing S) →
+pub no_line : {S : Type 0} (rules : SeerRules S) {left_ : List Line} {a : Standing S} →
     left_ ≡ [] → HasCome (lines_played rules left_) left_off a a
 unfolding lines_played
-no_line rules left_ a is = come_same (lines_played rules left_) left_off a (λ bot. rw is refl)
+no_line rules {left_} {a} is =
+    come_same (lines_played rules left_) left_off a (λ bot same. rw is refl)

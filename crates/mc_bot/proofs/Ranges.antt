@@ -1,7 +1,8 @@
 -- What is read of a script is in the range of its packets.
 use Rattle.std.proofs.Common.{◌≡◌, ℕ, zero, suc, ◌+◌, ◌*◌, ◌<◌, ◌≤◌, ◌^◌, ◌&&◌, nat_le, Bool}
-use Rattle.std.proofs.Common.{true, false, List, [], ◌∷◌, ◌++◌, length, Option, Some, None, Result, Ok, Err, refl, sym}
-use Rattle.std.proofs.Common.{subst, ap, ◌∙◌, arith}
+use Rattle.std.proofs.Common.{true, false, List, [], ◌∷◌, ◌++◌, length, Option, Some, None}
+use Rattle.std.proofs.Common.{Result, Ok, Err, refl}
+use Rattle.std.proofs.Common.{subst, ap, arith}
 use Rattle.std.specs.Prelude.{◌==◌, if◌then◌else◌, codes, nat_lt}
 use Rattle.std.specs.List.{All}
 use Rattle.std.specs.Option.{option_map}
@@ -11,7 +12,7 @@ use Rattle.std.proofs.lemmas.List.Elements.{All-append}
 use Rattle.std.proofs.lemmas.List.{length-append}
 use Rattle.std.proofs.lemmas.Str.{IsUtf8-from_is_utf8, encodes-chars, len_utf8_bounds}
 use Rattle.std.proofs.lemmas.Str.{length-encode}
-use lib.IntN.{ℤ, pos, neg_ℤ}
+use lib.IntN.{ℤ, pos}
 use lib.Utf8.{encode, encodes}
 use Rattle.mc_fields.specs.declared.position.Cell.{Cell}
 use Rattle.mc_fields.specs.Position.{FitsCell, FitsHalf}
@@ -24,15 +25,14 @@ use Rattle.mc_bot.specs.declared.act.Act.TheVariants as acts
 use Rattle.mc_bot.specs.declared.act.Line.{Line}
 use Rattle.mc_bot.specs.declared.act.Said.{Said}
 use Rattle.mc_bot.specs.declared.act.Said.TheVariants.{Join, Does}
-use Rattle.mc_bot.specs.declared.script.ScriptFault.{ScriptFault}
 use Rattle.mc_bot.specs.declared.script.ScriptKind.{ScriptKind}
 use Rattle.mc_bot.specs.declared.script.ScriptKind.TheVariants.{Long, Word}
 use Rattle.mc_bot.specs.Asked.{IsInRange}
 use Rattle.mc_bot.specs.Script.{Begun, said_next, said_after, line_after, then_lines, lines_after}
 use Rattle.mc_bot.specs.Script.{not_begun}
 use Rattle.mc_bot.specs.ScriptFits.{SaidFits, LinesFit, NameFits}
-use Rattle.mc_bot.specs.Words.{negative, whole_of, cell_at, cell_of, is_text_to, by_one, by_two}
-use Rattle.mc_bot.specs.Words.{by_three, numbered, text_said, said_with, join_said, say_said}
+use Rattle.mc_bot.specs.Words.{negative, whole_of, cell_at, cell_of, by_one, by_two}
+use Rattle.mc_bot.specs.Words.{by_three, numbered, text_said, said_with}
 use Rattle.mc_bot.specs.Words.{one_word, two_words, three_words, four_words, five_words, words_said}
 use Rattle.mc_bot.specs.Words.{byte_of, short_of, int_of, turn_of, state_of, is_saying, line_said}
 
@@ -67,7 +67,8 @@ whole_half half below most (b ∷ digits) n low high is = step (b == 45) is
     minus (Some m) read is =
         let few = number_most 1 below digits m read in
         let same : negative m ≡ n = cc in
-        subst (FitsHalf half) same (below_half half m (omega (arith, high)) (omega (arith, few, low)))
+        subst (FitsHalf half) same
+        (below_half half m (omega (arith, high)) (omega (arith, few, low)))
 
     plus : (o : Option ℕ) → number_of 0 most (b ∷ digits) ≡ o → option_map pos o ≡ Some n →
         FitsHalf half n
@@ -144,8 +145,8 @@ either : (test : Bool) (one other : Result Said ScriptKind) (said : Said) →
 either true one other said fits fits' is = fits is
 either false one other said fits fits' is = fits' is
 
-no_said : (kind : ScriptKind) (said : Said) → ◌≡◌ {A = Result Said ScriptKind} (Err kind) (Ok said) →
-    SaidFits said
+no_said : (kind : ScriptKind) (said : Said) →
+    ◌≡◌ {A = Result Said ScriptKind} (Err kind) (Ok said) → SaidFits said
 no_said kind said is = absurd cc
 
 does : (act : Act) (said : Said) → IsInRange act →

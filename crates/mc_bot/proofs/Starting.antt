@@ -1,6 +1,6 @@
 -- The answer to the login before the lines, and what is sent before it.
-use Rattle.std.proofs.Common.{◌≡◌, ℕ, ◌<◌, ◌≤◌, ◌⊎◌, inl, inr, true, false, List, [], ◌∷◌, ◌++◌, Option}
-use Rattle.std.proofs.Common.{Result, Ok, Err, refl, sym, subst, ap, ◌∙◌, arith}
+use Rattle.std.proofs.Common.{◌≡◌, ℕ, inl, inr, List, [], ◌∷◌}
+use Rattle.std.proofs.Common.{Option, Result, Ok, Err, refl, subst, arith}
 use Rattle.mc_fields.specs.Row.{packet_read, packet_of}
 use Rattle.mc_frame.proofs.Stops.{nothing_part}
 use Rattle.mc_hello.specs.LoginDown as login_down
@@ -12,8 +12,8 @@ use Rattle.mc_bot.specs.declared.act.Line.{Line}
 use Rattle.mc_bot.specs.declared.bot_fault.BotFault.{BotFault}
 use Rattle.mc_bot.specs.declared.bot_fault.BotFault.TheVariants as faults
 use Rattle.mc_bot.specs.Arriving.{Arriving, GoesWith, HasNext, HasPassed, IsPatient, nothing_came}
-use Rattle.mc_bot.specs.Played.{PlayStart, PlayLeft, HasRun, HasSent, IsBegun, SentAs}
-use Rattle.mc_bot.specs.Playing.{SeerRules, Bot, Course, logged_by, logged_in, then_play, hello}
+use Rattle.mc_bot.specs.Played.{PlayStart, PlayLeft, HasRun, HasSent, SentAs}
+use Rattle.mc_bot.specs.Playing.{SeerRules, Bot, Course, logged_by, logged_in, hello}
 use Rattle.mc_bot.specs.Playing.{lines_played}
 use Rattle.mc_bot.specs.Steps.{Keeping, Standing, HasFailed, HasTakenFrame, IsStep, LoginAs}
 use Rattle.mc_bot.specs.Steps.{left_off, not_logged_in}
@@ -124,7 +124,8 @@ hello_fails start left_ told fault exchanged sent = each fault sent.came
         SentAs (hello start.script.name start.port) sent.sent (Err fault) →
         HasRun start left_ (Err fault)
     each faults.Link begun = run_begun start left_ faults.Link sent.sent (inl refl) both begun
-    each faults.NoMemory begun = run_begun start left_ faults.NoMemory sent.sent (inr refl) both begun
+    each faults.NoMemory begun =
+        run_begun start left_ faults.NoMemory sent.sent (inr refl) both begun
     each other begun = absurd begun
 
 whole_hello : {S : Type 0} (start : PlayStart S) (told told1 : Option LinkTold) →

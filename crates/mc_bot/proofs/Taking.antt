@@ -1,8 +1,7 @@
 -- What one frame comes to in a play.
-use Rattle.std.proofs.Common.{◌≡◌, ℕ, ◌+◌, ◌<◌, ◌⊎◌, inl, inr, true, false, List, [], ◌∷◌, ◌++◌}
-use Rattle.std.proofs.Common.{length, Option, Some}
+use Rattle.std.proofs.Common.{◌≡◌, ℕ, ◌+◌, ◌<◌, ◌⊎◌, inl, inr, List, [], ◌∷◌, ◌++◌}
+use Rattle.std.proofs.Common.{Option, Some}
 use Rattle.std.proofs.Common.{None, Result, Ok, Err, refl, sym, subst, ap, ◌∙◌, arith, append_assoc}
-use Rattle.std.specs.Option.{option_copied}
 use Rattle.std.proofs.lemmas.List.{append-nil}
 use Rattle.mc_bytes.specs.declared.fault.FieldFault.{FieldFault}
 use Rattle.mc_fields.specs.declared.packet.PacketFault.{PacketFault}
@@ -25,8 +24,8 @@ use Rattle.mc_bot.specs.Played.{IsBegun, FailsAs, HasSent}
 use lib.IntN.{ℤ}
 use Rattle.mc_bot.specs.Playing.{Ahead, SeerRules, Bot, Course, goes, with_frame, logged_by}
 use Rattle.mc_bot.specs.Playing.{farewell}
-use Rattle.mc_bot.specs.Playing.{taken_if, taken_by, packet_taken, all_sent, no_packet}
-use Rattle.mc_bot.specs.Steps.{Keeping, Standing, Frames, HasCome, HasFailed, FrameAs}
+use Rattle.mc_bot.specs.Playing.{taken_by, packet_taken, all_sent}
+use Rattle.mc_bot.specs.Steps.{Keeping, Standing, HasCome, HasFailed, FrameAs}
 use Rattle.mc_bot.specs.Steps.{HasTakenFrame, LoginAs, CanGoOn, PacketAs, TookAs, bot_at}
 use Rattle.mc_bot.proofs.Coming.{no_exchange, then_exchanged}
 use Rattle.mc_bot.proofs.Growing.{Keeps, begun_all, frame_keeps, taken_keeps}
@@ -260,11 +259,11 @@ packet_comes rules seen seen' old incoming payload told told1 told2 stage h t =
     refl).0
 
 -- the link can be read on
-pub next_goes_on : (old : Keeping) (incoming : Arriving) (read : ℕ) (payload : List ℕ)
+pub next_goes_on : (old : Arriving) (keeping : Keeping) (payload : List ℕ)
     (told told1 : Option LinkTold) (stage stage' : LinkStage) →
-    HasNext old.incoming incoming told told1 stage (Ok payload) → stage' ≡ stage →
-    CanGoOn (record old { incoming = incoming; read = read }) stage'
-next_goes_on old incoming read payload told told1 stage stage' h same =
+    HasNext old keeping.incoming told told1 stage (Ok payload) → stage' ≡ stage →
+    CanGoOn keeping stage'
+next_goes_on old keeping payload told told1 stage stage' h same =
     rw same (record { goes = h.came.2; patient = h.came.3 })
 
 -- ---- packets as functions answer

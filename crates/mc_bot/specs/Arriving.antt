@@ -1,6 +1,6 @@
 -- What comes of a link, as a bot keeps it: what reading once, and taking the next frame, come to.
-use Rattle.std.specs.Prelude.{◌≡◌, ℕ, ◌+◌, ◌-◌, ◌*◌, ◌<◌, ◌≤◌, ◌⊎◌, Bool, true, false, List, [], ◌++◌}
-use Rattle.std.specs.Prelude.{length, Option, None, Some, Result, Ok, Err}
+use Rattle.std.specs.Prelude.{◌≡◌, ℕ, ◌+◌, ◌-◌, ◌*◌, ◌<◌, ◌≤◌, ◌⊎◌, true, false, List, []}
+use Rattle.std.specs.Prelude.{◌++◌, length, Option, None, Some, Result, Ok, Err}
 use Rattle.mc_bytes.specs.Reading.{IsBytes}
 use Rattle.mc_frame.specs.Cut.{IsPart, Ends}
 use Rattle.mc_frame.specs.Held.{Splitting, nothing_held}

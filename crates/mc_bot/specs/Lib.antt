@@ -7,5 +7,6 @@ pub mod Played
 pub mod FaultText
 pub mod BotFaults
 pub mod Arriving
+pub mod LinkFaults
 pub mod Steps
 pub mod ScriptFits

@@ -1,6 +1,6 @@
 -- What a bot sends over its script, and what its play comes to, of all that the link gave. Rules of
--- this project: a packet is taken exactly where a line still waits for one, every other line is done
--- at once, and what no line comes to refuses nothing.
+-- this project: a packet is taken exactly where a line still waits for one, every other line is
+-- done at once, and what no line comes to refuses nothing.
 use Rattle.std.specs.Prelude.{ℕ, ◌==◌, Bool, true, false, List, [], ◌∷◌, ◌++◌, Option, Some, None}
 use Rattle.std.specs.Prelude.{zero, suc, Result, Ok, Err, codes, if◌then◌else◌}
 use lib.IntN.{ℤ, pos}
@@ -28,7 +28,8 @@ use Rattle.mc_bot.specs.declared.act.Act.{Act}
 use Rattle.mc_bot.specs.declared.act.Act.TheVariants as acts
 use Rattle.mc_bot.specs.declared.act.Line.{Line}
 use Rattle.mc_bot.specs.declared.bot_fault.BotFault.{BotFault}
-use Rattle.mc_bot.specs.declared.bot_fault.BotFault.TheVariants.{Closed, Frame, Packet, Body, Expect}
+use Rattle.mc_bot.specs.declared.bot_fault.BotFault.TheVariants.{Closed, Frame, Packet, Body}
+use Rattle.mc_bot.specs.declared.bot_fault.BotFault.TheVariants.{Expect}
 use Rattle.mc_bot.specs.Asked.{Asked, ask_all, bytes_of, click_after, packets_of, reply_to}
 use Rattle.mc_bot.specs.Script.{ScriptValue}
 

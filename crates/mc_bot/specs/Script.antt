@@ -1,7 +1,7 @@
 -- A bot's script, as a text of lines, and the first fault of one that is none. Rules of this
 -- project: the first line that is not left out joins, and no later one does.
-use Rattle.std.specs.Prelude.{ℕ, ◌+◌, List, [], ◌∷◌, ◌++◌, length, Option, Some, None, Result, Ok, Err}
-use Rattle.std.specs.Prelude.{if◌then◌else◌}
+use Rattle.std.specs.Prelude.{ℕ, ◌+◌, List, [], ◌∷◌, ◌++◌, length, Option, Some, None, Result}
+use Rattle.std.specs.Prelude.{Ok, Err, if◌then◌else◌}
 use Rattle.mc_text.specs.Lines.{lines_of, is_skipped, goes_past}
 use Rattle.mc_bot.specs.declared.act.Line.{Line}
 use Rattle.mc_bot.specs.declared.act.Said.{Said}

@@ -1,7 +1,7 @@
 -- What some steps of a bot came to, over what was read for them: the play that they belong to goes
 -- on as what is left of it, or ended so.
-use Rattle.std.specs.Prelude.{◌≡◌, ℕ, ◌+◌, ◌<◌, Bool, true, false, List, [], ◌++◌, length, Option, Some, None}
-use Rattle.std.specs.Prelude.{Result, Ok, Err}
+use Rattle.std.specs.Prelude.{◌≡◌, ℕ, ◌+◌, ◌<◌, Bool, true, false, List, [], ◌++◌, length}
+use Rattle.std.specs.Prelude.{Option, Some, None, Result, Ok, Err}
 use lib.IntN.{ℤ, pos}
 use Rattle.mc_fields.specs.declared.packet.PacketFault.{PacketFault}
 use Rattle.mc_frame.specs.declared.fault.FrameFault.{FrameFault}

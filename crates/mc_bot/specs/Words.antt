@@ -1,7 +1,7 @@
--- What one line of a bot's script says. Rules of this project: the words of a line are parted by one
--- space each, and a number has no zeros and no `+` before it, and `-` where it is negative.
-use Rattle.std.specs.Prelude.{ℕ, nat_lt, nat_le, ◌==◌, ◌&&◌, Bool, List, [], ◌∷◌, length, take, drop}
-use Rattle.std.specs.Prelude.{Option, Some, None, Result, Ok, Err, codes, if◌then◌else◌}
+-- What one line of a bot's script says. Rules of this project: the words of a line are parted by
+-- one space each, and a number has no zeros and no `+` before it, and `-` where it is negative.
+use Rattle.std.specs.Prelude.{ℕ, nat_lt, nat_le, ◌==◌, ◌&&◌, Bool, List, [], ◌∷◌, length}
+use Rattle.std.specs.Prelude.{take, drop, Option, Some, None, Result, Ok, Err, codes, if◌then◌else◌}
 use Rattle.std.specs.Option.{option_map}
 use Rattle.std.specs.Str.{bytes_eq, is_utf8, chars}
 use lib.IntN.{ℤ, pos, neg_ℤ}

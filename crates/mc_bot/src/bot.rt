@@ -2,6 +2,7 @@ ghost use Rattle.std.specs.Prelude.{◌≡◌, ◌++◌, None, OnOk, IsErrOf, tr
 ghost use Rattle.mc_fields.specs.Text.{FitsText};
 ghost use Rattle.mc_model.specs.Replica.{Replica, new_replica};
 ghost use Rattle.mc_wire.specs.Count.{NeverFalls, Rose, StandsOrRises};
+ghost use Rattle.mc_bot.specs.LinkFaults.{LinkFaults};
 ghost use Rattle.mc_bot.specs.Played.{HasPlayedScript, HasRun, HasSent, replica_rules};
 ghost use Rattle.mc_bot.specs.Playing.{handshake_frame, hello, rules_of, start_frame};
 
@@ -54,9 +55,7 @@ fn send_hello<K: Link>(alloc: Global, name: &Text, port: u16, link: &mut K) -> R
     requires connected { (K.stage link.old).connected ≡ true }
     ensures sent { HasSent (hello name.now port) (K.told link.old) (K.told link.new) result }
     ensures stands { K.stage link.new ≡ K.stage link.old }
-    ensures failed { IsErrOf result BotFault.Link →
-        Rose (K.counts link.old).faults (K.counts link.new).faults }
-    ensures counts { StandsOrRises (K.counts link.old).faults (K.counts link.new).faults }
+    ensures link { LinkFaults (K.counts link.old).faults (K.counts link.new).faults result }
 {
     let mut hello = Vec::new(alloc);
     put_handshake(alloc, port, &mut hello)?;

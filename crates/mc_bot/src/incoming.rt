@@ -1,11 +1,10 @@
-ghost use Rattle.std.specs.Prelude.{◌≡◌, ◌+◌, ◌≤◌, ◌<◌, Ok, None, IfOk, IfErr, OnOk, IsErrOf, length};
-ghost use Rattle.std.specs.Prelude.{true};
+ghost use Rattle.std.specs.Prelude.{◌≡◌, ◌+◌, ◌≤◌, ◌<◌, Ok, None, IfOk, IfErr, OnOk, length, true};
 ghost use Rattle.mc_frame.specs.Cut.{IsPart};
 ghost use Rattle.mc_frame.specs.Splitting.{Takes, held_max};
-ghost use Rattle.mc_wire.specs.Count.{Rose, StandsOrRises};
 ghost use Rattle.mc_wire.specs.LinkStage.{after_read};
-ghost use Rattle.mc_bot.specs.Arriving.{nothing_came, holding, GoesWith, IsPatient, HasGot, HasRead};
-ghost use Rattle.mc_bot.specs.Arriving.{HasNext, HasTries, to_come, tries};
+ghost use Rattle.mc_bot.specs.Arriving.{nothing_came, holding, GoesWith, IsPatient, HasGot};
+ghost use Rattle.mc_bot.specs.Arriving.{HasRead, HasNext, HasTries, to_come, tries};
+ghost use Rattle.mc_bot.specs.LinkFaults.{LinkFaults};
 
 use crate::BotFault;
 use mc_bytes::{NoMemory, Octets, Text};
@@ -87,9 +86,7 @@ fn read_once<K: Link>(
     ensures got { HasGot splitter.old splitter.new (K.told link.old) (K.told link.new) result }
     ensures stands { IfOk result (λ got.
         K.stage link.new ≡ after_read (Ok got) (K.stage link.old)) }
-    ensures failed { IsErrOf result BotFault.Link →
-        Rose (K.counts link.old).faults (K.counts link.new).faults }
-    ensures counts { StandsOrRises (K.counts link.old).faults (K.counts link.new).faults }
+    ensures link { LinkFaults (K.counts link.old).faults (K.counts link.new).faults result }
     ensures fewer { HasTries result (K.answers link.old) (K.answers link.new) }
 {
     let got = link.read(piece)?;
@@ -113,9 +110,7 @@ fn read_into<K: Link>(
     ensures got { HasGot splitter.old splitter.new (K.told link.old) (K.told link.new) result }
     ensures stands { IfOk result (λ got.
         K.stage link.new ≡ after_read (Ok got) (K.stage link.old)) }
-    ensures failed { IsErrOf result BotFault.Link →
-        Rose (K.counts link.old).faults (K.counts link.new).faults }
-    ensures counts { StandsOrRises (K.counts link.old).faults (K.counts link.new).faults }
+    ensures link { LinkFaults (K.counts link.old).faults (K.counts link.new).faults result }
     ensures fewer { HasTries result (K.answers link.old) (K.answers link.new) }
 {
     let room = room_for(splitter, piece.len());
@@ -154,9 +149,7 @@ impl Incoming {
         requires part { IsPart self.old.splitting.held }
         ensures read { HasRead self.old self.new (K.told link.old) (K.told link.new)
             (K.stage link.new) result }
-        ensures failed { IsErrOf result BotFault.Link →
-            Rose (K.counts link.old).faults (K.counts link.new).faults }
-        ensures counts { StandsOrRises (K.counts link.old).faults (K.counts link.new).faults }
+        ensures link { LinkFaults (K.counts link.old).faults (K.counts link.new).faults result }
         ensures fewer { OnOk result (to_come (K.answers link.new) self.new.splitting ≤
             to_come (K.answers link.old) self.old.splitting) }
         ensures tries { OnOk result
@@ -188,9 +181,7 @@ impl Incoming {
         requires patient { IsPatient self.old }
         ensures next { HasNext self.old self.new (K.told link.old) (K.told link.new)
             (K.stage link.new) result }
-        ensures failed { IsErrOf result BotFault.Link →
-            Rose (K.counts link.old).faults (K.counts link.new).faults }
-        ensures counts { StandsOrRises (K.counts link.old).faults (K.counts link.new).faults }
+        ensures link { LinkFaults (K.counts link.old).faults (K.counts link.new).faults result }
         ensures fewer { OnOk result (to_come (K.answers link.new) self.new.splitting <
             to_come (K.answers link.old) self.old.splitting) }
     {

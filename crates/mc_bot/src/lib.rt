@@ -1,9 +1,11 @@
-//! The headless client: what its script says, what its lines send, and what it answers by itself.
+//! The headless client: it reads a script, plays it over a link, and writes what the client sees
+//! then.
 //!
-//! Stands on the lines, words and numbers of `mc_words`, the cells of `mc_fields`, the packets of
-//! `mc_up` and what follows a server for a client, of `mc_replica`. Its contracts: a text is read as
-//! a script exactly where it is one, and else its first fault is told; of a line exactly its packets
-//! are asked for, each of which can be sent.
+//! Stands on the lines, words and numbers of `mc_text`, the cells of `mc_fields`, the frames of
+//! `mc_frame`, the packets of `mc_hello`, `mc_up` and `mc_down`, the link and the sink of `mc_wire`
+//! and what follows a server for a client, of `mc_replica`. Its contract: `play_with` answers how
+//! the play of the script ends over what the link gave, and sends exactly what is sent in it.
+//! `Script::read` has one more: a text is a script, or its first fault is told.
 #![tactic(auto)]
 
 mod act;

@@ -1,10 +1,10 @@
 ghost use Rattle.std.specs.Prelude.{◌≡◌, ◌≤◌, ◌<◌, ◌⊎◌, ℕ, Ok, None, IfOk, IfErr};
-ghost use Rattle.std.specs.Prelude.{IsErrOf, OnOk, All, true, false};
+ghost use Rattle.std.specs.Prelude.{OnOk, All, true, false};
 ghost use Rattle.std.specs.Option.{option_copied};
 ghost use Rattle.mc_fields.specs.Row.{packet_of, packet_read};
 ghost use Rattle.mc_hello.specs.LoginDown as login_down;
 ghost use Rattle.mc_packets.specs.Down as play;
-ghost use Rattle.mc_wire.specs.Count.{Rose, StandsOrRises};
+ghost use Rattle.mc_bot.specs.LinkFaults.{LinkFaults};
 ghost use Rattle.mc_bot.specs.Arriving.{GoesWith, IsPatient, to_come};
 ghost use Rattle.mc_bot.specs.Asked.{IsInRange, bytes_of, reply_to};
 ghost use Rattle.mc_bot.specs.BotFaults.{fault_of_packet};
@@ -104,9 +104,7 @@ fn send_reply<K: Link>(alloc: Global, packet: &Down, link: &mut K) -> Result<(),
     ensures sent { HasSent (bytes_of (reply_to packet.now)) (K.told link.old) (K.told link.new)
         result }
     ensures stands { K.stage link.new ≡ K.stage link.old }
-    ensures failed { IsErrOf result BotFault.Link →
-        Rose (K.counts link.old).faults (K.counts link.new).faults }
-    ensures counts { StandsOrRises (K.counts link.old).faults (K.counts link.new).faults }
+    ensures link { LinkFaults (K.counts link.old).faults (K.counts link.new).faults result }
     ensures fewer { K.answers link.new ≤ K.answers link.old }
 {
     let mut reply = Vec::new(alloc);
@@ -128,9 +126,7 @@ fn take_and_reply<S: Seer, K: Link>(
         S.block_at S.slot_at S.window_at S.text) (Ok packet.now))
         seer.old seer.new read (K.told link.old) (K.told link.new) result }
     ensures stands { K.stage link.new ≡ K.stage link.old }
-    ensures failed { IsErrOf result BotFault.Link →
-        Rose (K.counts link.old).faults (K.counts link.new).faults }
-    ensures counts { StandsOrRises (K.counts link.old).faults (K.counts link.new).faults }
+    ensures link { LinkFaults (K.counts link.old).faults (K.counts link.new).faults result }
     ensures fewer { K.answers link.new ≤ K.answers link.old }
 {
     take_in(seer, packet)?;
@@ -150,9 +146,7 @@ fn apply<S: Seer, K: Link>(
         S.block_at S.slot_at S.window_at S.text) (Ok packet.now))
         seer.old seer.new read (K.told link.old) (K.told link.new) result }
     ensures stands { K.stage link.new ≡ K.stage link.old }
-    ensures failed { IsErrOf result BotFault.Link →
-        Rose (K.counts link.old).faults (K.counts link.new).faults }
-    ensures counts { StandsOrRises (K.counts link.old).faults (K.counts link.new).faults }
+    ensures link { LinkFaults (K.counts link.old).faults (K.counts link.new).faults result }
     ensures fewer { K.answers link.new ≤ K.answers link.old }
 {
     match farewell(packet) {
@@ -186,9 +180,7 @@ fn take_frame<S: Seer, K: Link>(
         (packet_of frame.now (packet_read play.rows frame.now)))
         seer.old seer.new count (K.told link.old) (K.told link.new) result }
     ensures stands { K.stage link.new ≡ K.stage link.old }
-    ensures failed { IsErrOf result BotFault.Link →
-        Rose (K.counts link.old).faults (K.counts link.new).faults }
-    ensures counts { StandsOrRises (K.counts link.old).faults (K.counts link.new).faults }
+    ensures link { LinkFaults (K.counts link.old).faults (K.counts link.new).faults result }
     ensures fewer { K.answers link.new ≤ K.answers link.old }
 {
     let packet = read_packet(alloc, frame, count)?;
@@ -274,9 +266,7 @@ impl Playing {
             (record { seen = seer.old; keeping = self.old; told = K.told link.old })
             (record { seen = seer.new; keeping = self.new; told = K.told link.new })
             (K.stage link.new) result }
-        ensures failed { IsErrOf result BotFault.Link →
-            Rose (K.counts link.old).faults (K.counts link.new).faults }
-        ensures counts { StandsOrRises (K.counts link.old).faults (K.counts link.new).faults }
+        ensures link { LinkFaults (K.counts link.old).faults (K.counts link.new).faults result }
         ensures fewer { OnOk result
             (to_come (K.answers link.new) self.new.incoming.splitting <
             to_come (K.answers link.old) self.old.incoming.splitting) }
@@ -301,9 +291,7 @@ impl Playing {
             (record { seen = seer.old; keeping = self.old; told = K.told link.old })
             (record { seen = seer.new; keeping = self.new; told = K.told link.new })
             (K.stage link.new) result }
-        ensures failed { IsErrOf result BotFault.Link →
-            Rose (K.counts link.old).faults (K.counts link.new).faults }
-        ensures counts { StandsOrRises (K.counts link.old).faults (K.counts link.new).faults }
+        ensures link { LinkFaults (K.counts link.old).faults (K.counts link.new).faults result }
     {
         let mut left = count;
         while left > 0 {
@@ -328,9 +316,7 @@ impl Playing {
             (record { seen = seer.old; keeping = self.old; told = K.told link.old })
             (record { seen = seer.new; keeping = self.new; told = K.told link.new })
             (K.stage link.new) result }
-        ensures failed { IsErrOf result BotFault.Link →
-            Rose (K.counts link.old).faults (K.counts link.new).faults }
-        ensures counts { StandsOrRises (K.counts link.old).faults (K.counts link.new).faults }
+        ensures link { LinkFaults (K.counts link.old).faults (K.counts link.new).faults result }
     {
         while !has_state(seer, cell, state) {
             self.take(seer, link)?;
@@ -352,9 +338,7 @@ impl Playing {
             (record { seen = seer.old; keeping = self.old; told = K.told link.old })
             (record { seen = seer.new; keeping = self.new; told = K.told link.new })
             (K.stage link.new) result }
-        ensures failed { IsErrOf result BotFault.Link →
-            Rose (K.counts link.old).faults (K.counts link.new).faults }
-        ensures counts { StandsOrRises (K.counts link.old).faults (K.counts link.new).faults }
+        ensures link { LinkFaults (K.counts link.old).faults (K.counts link.new).faults result }
     {
         let mut bytes = Vec::new(self.alloc);
         put_act(self.alloc, seer, act, self.number, &mut bytes)?;
@@ -378,9 +362,7 @@ impl Playing {
             (record { seen = seer.old; keeping = self.old; told = K.told link.old })
             (record { seen = seer.new; keeping = self.new; told = K.told link.new })
             (K.stage link.new) result }
-        ensures failed { IsErrOf result BotFault.Link →
-            Rose (K.counts link.old).faults (K.counts link.new).faults }
-        ensures counts { StandsOrRises (K.counts link.old).faults (K.counts link.new).faults }
+        ensures link { LinkFaults (K.counts link.old).faults (K.counts link.new).faults result }
     {
         match &line.act {
             Act::Wait(count) => self.take_many(seer, link, *count),
@@ -405,9 +387,7 @@ impl Playing {
             (record { seen = seer.old; keeping = self.old; told = K.told link.old })
             (record { seen = seer.new; keeping = self.new; told = K.told link.new })
             (K.stage link.new) result }
-        ensures failed { IsErrOf result BotFault.Link →
-            Rose (K.counts link.old).faults (K.counts link.new).faults }
-        ensures counts { StandsOrRises (K.counts link.old).faults (K.counts link.new).faults }
+        ensures link { LinkFaults (K.counts link.old).faults (K.counts link.new).faults result }
     {
         for line in lines {
             if is_leaving(&line.act) {
@@ -434,9 +414,7 @@ impl Playing {
             (record { seen = seer.old; keeping = self.old; told = K.told link.old })
             (record { seen = seer.new; keeping = self.new; told = K.told link.new })
             (K.stage link.new) result }
-        ensures failed { IsErrOf result BotFault.Link →
-            Rose (K.counts link.old).faults (K.counts link.new).faults }
-        ensures counts { StandsOrRises (K.counts link.old).faults (K.counts link.new).faults }
+        ensures link { LinkFaults (K.counts link.old).faults (K.counts link.new).faults result }
     {
         let frame = self.incoming.next(link)?;
         take_login(self.alloc, frame.as_slice(), self.read)?;

@@ -1,7 +1,7 @@
 ghost use Rattle.std.specs.Prelude.{◌≡◌, ◌≤◌, ℕ, [], length, take, true, OnOk, OnErr};
-ghost use Rattle.std.specs.Prelude.{IsErrOf};
 ghost use Rattle.mc_wire.specs.Count.{Rose, StandsOrRises};
 ghost use Rattle.mc_wire.specs.LinkTold.{Exchanges};
+ghost use Rattle.mc_bot.specs.LinkFaults.{LinkFaults};
 ghost use Rattle.mc_bot.specs.Played.{HasSent};
 
 use crate::BotFault;
@@ -35,9 +35,7 @@ pub fn send_bytes<K: Link>(link: &mut K, piece: &[u8]) -> Result<(), BotFault>
     requires connected { (K.stage link.old).connected ≡ true }
     ensures sent { HasSent piece.now (K.told link.old) (K.told link.new) result }
     ensures stands { K.stage link.new ≡ K.stage link.old }
-    ensures failed { IsErrOf result BotFault.Link →
-        Rose (K.counts link.old).faults (K.counts link.new).faults }
-    ensures counts { StandsOrRises (K.counts link.old).faults (K.counts link.new).faults }
+    ensures link { LinkFaults (K.counts link.old).faults (K.counts link.new).faults result }
     ensures fewer { K.answers link.new ≤ K.answers link.old }
 {
     match send(link, piece) {

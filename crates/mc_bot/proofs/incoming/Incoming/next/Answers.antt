@@ -15,5 +15,5 @@ loop-payload-preserved g c =
     let took = rw c.in-More.is at c.in_ok-payload.ensures.takes in
     waited_read_more _ c.loop-payload.self c.take.new.self _ _ _ _ _ _ _ _ _ _ _ _
     c.loop-payload.invariant c.in_ok-payload.ensures.kept took
-    c.in_ok-read-in-More.ensures.read c.in_ok-read-in-More.ensures.counts
+    c.in_ok-read-in-More.ensures.read c.in_ok-read-in-More.ensures.link.1
     c.in_ok-read-in-More.ensures.fewer

@@ -11,11 +11,7 @@ returns-in_err-put_act-clause-step g c =
     let rules = rules_of g.S.Seer.refused g.S.Seer.taken g.S.Seer.asked g.S.Seer.sent
     g.S.Seer.block_at g.S.Seer.slot_at g.S.Seer.window_at g.S.Seer.text in
     let p = err_from_is_err_and c.from_residual.result c.from_residual.ensures.1 in
-    rw (p.1, p.2) (act_lost rules c.args.act.now (record {
-      seen = c.args.seer.now;
-      keeping = c.args.self.now;
-      told = g.K.Link.told c.args.link.now;
-    }) (g.K.Link.stage c.args.link.now))
+    rw (p.1, p.2) (act_lost rules c.args.act.now _ (g.K.Link.stage c.args.link.now))
 
 pub returns-in_err-send_bytes-clause-step : goal.returns-in_err-send_bytes-clause-step
 returns-in_err-send_bytes-clause-step g c =
@@ -27,17 +23,8 @@ returns-in_err-send_bytes-clause-step g c =
     let asked = rw (c.new-bytes.ensures.items, to_z-of_z w16 c.self.inside.number fits) at
     c.in_ok-put_act.ensures in
     let sent = rw c.as_slice.ensures.value at c.in_err-send_bytes.ensures.sent in
-    rw (p.1, p.2, ← c.self.view_is) (act_fails rules c.args.act.now
-    (record {
-      seen = c.args.seer.now;
-      keeping = record {
-        incoming = c.self.inside.incoming;
-        read = c.self.inside.read;
-        number = c.self.inside.number;
-      };
-      told = g.K.Link.told c.args.link.now;
-    }) c.put_act.new.seer c.put_act.new.out.items _ _ _ asked
-    sent)
+    rw (p.1, p.2, ← c.self.view_is) (act_fails rules c.args.act.now _ c.put_act.new.seer
+    c.put_act.new.out.items _ _ _ asked sent)
 
 pub returns-clause-step : goal.returns-clause-step
 returns-clause-step g c =
@@ -47,25 +34,13 @@ returns-clause-step g c =
     let asked = rw (c.new-bytes.ensures.items, to_z-of_z w16 c.self.inside.number fits) at
     c.in_ok-put_act.ensures in
     let sent = rw c.as_slice.ensures.value at c.in_ok-send_bytes.ensures.sent in
+    let ready = rw (← c.self.view_is) at c.requires.ready in
     rw (
       to_z-of_z w16 c.number_past-self-inside.result search,
       c.number_past-self-inside.ensures,
       to_z-of_z w16 c.self.inside.number fits,
       ← c.self.view_is,
     ) (
-      act_comes rules c.args.act.now
-          (record {
-            seen = c.args.seer.now;
-            keeping = record {
-              incoming = c.self.inside.incoming;
-              read = c.self.inside.read;
-              number = c.self.inside.number;
-            };
-            told = g.K.Link.told c.args.link.now;
-          }) c.put_act.new.seer c.put_act.new.out.items _ asked sent,
-      act_goes_on (record {
-        incoming = c.self.inside.incoming;
-        read = c.self.inside.read;
-        number = c.self.inside.number;
-      }) _ _ _ (rw c.self.view_is c.requires.ready) c.in_ok-send_bytes.ensures.stands,
+      act_comes rules c.args.act.now _ c.put_act.new.seer c.put_act.new.out.items _ asked sent,
+      act_goes_on _ _ _ _ ready c.in_ok-send_bytes.ensures.stands,
     )

@@ -1,8 +1,4 @@
-use Rattle.std.proofs.Common.{refl, arith, rules}
-use Rattle.std.proofs.lemmas.Result.{err_from_is_err_and}
-use Rattle.mc_bot.specs.Playing.{rules_of, packets_taken, lines_played}
-use Rattle.mc_bot.specs.Steps.{IsStep}
-use Rattle.mc_bot.specs.Playing.{goes}
+use Rattle.mc_bot.specs.Playing.{rules_of}
 use Rattle.mc_bot.proofs.Lines.{wait_line, until_line, expect_line, other_line}
 use Rattle.mc_bot.proofs.playing.Playing.play_line.Goals as goal
 
@@ -10,39 +6,26 @@ pub returns-in-Wait-clause-step : goal.returns-in-Wait-clause-step
 returns-in-Wait-clause-step g c =
     let rules = rules_of g.S.Seer.refused g.S.Seer.taken g.S.Seer.asked g.S.Seer.sent
     g.S.Seer.block_at g.S.Seer.slot_at g.S.Seer.window_at g.S.Seer.text in
-    wait_line rules _ _ _ _ _ _ _ (search rules) c.take_many.ensures.step
+    wait_line rules _ _ _ _ _ _ _ (search) c.take_many.ensures.step
 
 pub returns-in-Until-clause-step : goal.returns-in-Until-clause-step
 returns-in-Until-clause-step g c =
     let rules = rules_of g.S.Seer.refused g.S.Seer.taken g.S.Seer.asked g.S.Seer.sent
     g.S.Seer.block_at g.S.Seer.slot_at g.S.Seer.window_at g.S.Seer.text in
-    until_line rules _ _ _ _ _ _ _ _ (search rules) c.take_until.ensures.step
+    until_line rules _ _ _ _ _ _ _ _ (search) c.take_until.ensures.step
 
 pub returns-in-Expect-clause-step : goal.returns-in-Expect-clause-step
 returns-in-Expect-clause-step g c =
     let rules = rules_of g.S.Seer.refused g.S.Seer.taken g.S.Seer.asked g.S.Seer.sent
     g.S.Seer.block_at g.S.Seer.slot_at g.S.Seer.window_at g.S.Seer.text in
-    expect_line rules _ _ _ _ (record {
-      seen = c.args.seer.now;
-      keeping = c.args.self.now;
-      told = g.K.Link.told c.args.link.now;
-    }) _ _ (search rules) c.requires.ready c.expect.ensures
+    expect_line rules _ _ _ _ _ _ _ (search) c.requires.ready c.expect.ensures
 
 pub returns-in_default : goal.returns-in_default
 returns-in_default g c =
     let rules = rules_of g.S.Seer.refused g.S.Seer.taken g.S.Seer.asked g.S.Seer.sent
     g.S.Seer.block_at g.S.Seer.slot_at g.S.Seer.window_at g.S.Seer.text in
     record {
-      step = other_line rules _ c.args.line.now.act (λ play. IsStep play goes (record {
-        seen = c.args.seer.now;
-        keeping = c.args.self.now;
-        told = g.K.Link.told c.args.link.now;
-      }) (record {
-        seen = c.act.new.seer;
-        keeping = c.act.new.self;
-        told = g.K.Link.told c.act.new.link;
-      }) (g.K.Link.stage c.act.new.link) c.act.result) c.requires.stays c.in_default.not-Wait
-          c.in_default.not-Until c.in_default.not-Expect c.act.ensures.step;
-      failed = c.act.ensures.failed;
-      counts = c.act.ensures.counts;
+      step = rw (other_line rules c.args.line.now.number c.args.line.now.act c.requires.stays
+          c.in_default.not-Wait c.in_default.not-Until c.in_default.not-Expect) c.act.ensures.step;
+      link = c.act.ensures.link;
     }

@@ -8,15 +8,7 @@ returns-in_err-frame-clause-step g c =
     let rules = rules_of g.S.Seer.refused g.S.Seer.taken g.S.Seer.asked g.S.Seer.sent
     g.S.Seer.block_at g.S.Seer.slot_at g.S.Seer.window_at g.S.Seer.text in
     let p = err_from_is_err_and c.from_residual.result c.from_residual.ensures.1 in
-    rw (p.1, p.2, ← c.self.view_is) (packet_next_fails rules (record {
-      seen = c.args.seer.now;
-      keeping = record {
-        incoming = c.self.inside.incoming;
-        read = c.self.inside.read;
-        number = c.self.inside.number;
-      };
-      told = g.K.Link.told c.args.link.now;
-    }) _ _ _ _ c.in_err-frame.ensures.next)
+    rw (p.1, p.2, ← c.self.view_is) (packet_next_fails rules _ _ _ _ _ c.in_err-frame.ensures.next)
 
 pub returns-in_err-take_frame-clause-step : goal.returns-in_err-take_frame-clause-step
 returns-in_err-take_frame-clause-step g c =
@@ -25,12 +17,8 @@ returns-in_err-take_frame-clause-step g c =
     let p = err_from_is_err_and c.from_residual-in_err-take_frame.result
     c.from_residual-in_err-take_frame.ensures.1 in
     let taken = rw c.as_slice.ensures at c.in_err-take_frame.ensures.taken in
-    rw (p.1, p.2, ← c.self.view_is) (packet_fails rules _ _ (record {
-      incoming = c.self.inside.incoming;
-      read = c.self.inside.read;
-      number = c.self.inside.number;
-    }) _ _ _ _ _ _ _ _ c.in_ok-frame.ensures.next taken
-    c.in_err-take_frame.ensures.stands)
+    rw (p.1, p.2, ← c.self.view_is) (packet_fails rules _ _ _ _ _ _ _ _ _ _ _
+    c.in_ok-frame.ensures.next taken c.in_err-take_frame.ensures.stands)
 
 pub returns-clause-step : goal.returns-clause-step
 returns-clause-step g c =
@@ -38,14 +26,6 @@ returns-clause-step g c =
     g.S.Seer.block_at g.S.Seer.slot_at g.S.Seer.window_at g.S.Seer.text in
     let taken = rw c.as_slice.ensures at c.in_ok-take_frame.ensures.taken in
     rw (c.saturating_add-self-inside.ensures, ← c.self.view_is) (
-      packet_comes rules _ _ (record {
-        incoming = c.self.inside.incoming;
-        read = c.self.inside.read;
-        number = c.self.inside.number;
-      }) _ _ _ _ _ _ c.in_ok-frame.ensures.next taken,
-      next_goes_on (record {
-        incoming = c.self.inside.incoming;
-        read = c.self.inside.read;
-        number = c.self.inside.number;
-      }) _ _ _ _ _ _ _ c.in_ok-frame.ensures.next c.in_ok-take_frame.ensures.stands,
+      packet_comes rules _ _ _ _ _ _ _ _ _ c.in_ok-frame.ensures.next taken,
+      next_goes_on _ _ _ _ _ _ _ c.in_ok-frame.ensures.next c.in_ok-take_frame.ensures.stands,
     )
