@@ -16,6 +16,7 @@ import bots
 import captures
 import carrying
 import crowds
+import cutting
 import digging
 import endings
 import far
@@ -35,7 +36,7 @@ import windows
 TESTS = [*play.TESTS, *talking.TESTS, *digging.TESTS, *carrying.TESTS, *faults.TESTS]
 TESTS += [*refusing.TESTS, *seeing.TESTS, *crowds.TESTS, *endings.TESTS, *system.TESTS]
 TESTS += [*floods.TESTS, *running.TESTS, *windows.TESTS, *mobs.TESTS]
-TESTS += [*far.TESTS, *bots.TESTS, *captures.TESTS]
+TESTS += [*far.TESTS, *bots.TESTS, *cutting.TESTS, *captures.TESTS]
 LONG_TESTS = [*silence.LONG_TESTS, *talking.LONG_TESTS, *system.LONG_TESTS]
 
 # What runs beside the others, and how many of that at a time: more than are long.
