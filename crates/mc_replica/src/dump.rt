@@ -6,8 +6,8 @@ ghost use Rattle.mc_text.specs.Passes.{Breaks, Passes};
 
 use crate::lines::Dumped;
 use mc_bytes::NoMemory;
-use mc_wire::Sink;
 use mc_text::{Unfinished, put};
+use mc_wire::Sink;
 use std::alloc::Global;
 
 /// The line of something, with its end.

@@ -1,8 +1,8 @@
 ghost use Rattle.std.specs.Prelude.{◌≡◌};
 
 use mc_bytes::NoMemory;
-use mc_wire::Failed;
 use mc_text::Unfinished;
+use mc_wire::Failed;
 
 /// Why a dump was not written whole.
 #[derive(Clone, Copy, Debug, PartialEq, Eq)]

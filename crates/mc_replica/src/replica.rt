@@ -33,8 +33,8 @@ use mc_column::{Body, Column, read_body};
 use mc_fields::Cell;
 use mc_packets::Down;
 use mc_slots::Slot;
-use mc_wire::Sink;
 use mc_text::{Unfinished, write_out};
+use mc_wire::Sink;
 use std::alloc::Global;
 use std::marker::Model;
 

@@ -14,8 +14,8 @@ use crate::kept_line::KeptLine;
 use mc_bytes::{Cursor, Kind, NoMemory, Stop};
 use mc_events::Server;
 use mc_fields::take_varint_within;
-use mc_wire::Sink;
 use mc_text::{Unfinished, put};
+use mc_wire::Sink;
 
 /// Takes all that the connection is owed, and appends it.
 pub fn take_owed(server: &mut Server, owed: &mut Vec<u8>) -> Result<(), NoMemory>

@@ -20,8 +20,8 @@ use mc_entities::Planned;
 use mc_events::{Input, Server};
 use mc_land::Terrain;
 use mc_model::{Cause, Settings, Stage};
-use mc_wire::Sink;
 use mc_text::Unfinished;
+use mc_wire::Sink;
 use mc_words::InputFault;
 use std::alloc::Global;
 

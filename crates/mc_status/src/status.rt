@@ -10,8 +10,8 @@ ghost use Rattle.mc_status.specs.StatusText.{last_byte_line, status_told};
 ghost use Rattle.mc_status.specs.Playing.{Meets, Receives};
 
 use crate::playing::Client;
-use mc_wire::Sink;
 use mc_text::{Unfinished, cut_line, goes_past, put_line, write_out};
+use mc_wire::Sink;
 use mc_words::{BadInput, InputFault};
 use std::alloc::Global;
 

@@ -26,11 +26,11 @@ use Rattle.mc_events.specs.Served.{ServerValue}
 use Rattle.mc_words.specs.declared.arguments.ServeOptions.{ServeOptions}
 use Rattle.mc_words.specs.declared.ended.Ended.{Ended}
 use Rattle.mc_words.specs.declared.ended.Ended.TheVariants as ended
-use Rattle.mc_words.specs.Devices.{LinkDevice, devices}
-use Rattle.mc_top.specs.RecordPromise.{Records, Tapes, TapesAll, TapesPart}
+use Rattle.mc_words.specs.Devices.{Devices, LinkDevice, devices}
+use Rattle.mc_top.specs.RecordPromise.{Records, ServePromise, Tapes, TapesAll, TapesPart}
 use Rattle.mc_top.specs.Recording.{IsLost, ended_by_end, ended_recording}
 use Rattle.mc_top.specs.ReplayPromise.{start_of}
-use Rattle.mc_top.specs.ServePromise.{HasServed, budget_of}
+use Rattle.mc_top.specs.ServePromise.{HasServed, Sums, budget_of}
 use Rattle.mc_top.proofs.Serves.{has_served}
 
 -- ---- the tape
@@ -248,3 +248,15 @@ pub records_as : (plans : Plans) (options : ServeOptions) (how how' : Ended)
 records_as plans options how how' old new new' counts counts' counts'' link left reads first held held'
     held'' none writes writes' writes'' ends told counted before there faults rose said =
     rw (ends, told, counted, before, there, faults, rose) said
+
+-- ---- with a capture or without
+
+pub served_with : (plans : Plans) (options : ServeOptions) (how : Ended) (before after : Devices) →
+    options.capture ≡ true → Records plans options how before after →
+    ServePromise plans options how before after
+served_with plans options how before after is said = rw is said
+
+pub served_without : (plans : Plans) (options : ServeOptions) (how : Ended)
+    (before after : Devices) → options.capture ≡ false → Sums plans options how before after →
+    ServePromise plans options how before after
+served_without plans options how before after is said = rw is said

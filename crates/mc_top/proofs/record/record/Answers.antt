@@ -13,8 +13,10 @@ pub returns : goal.returns
 returns g c = λ link left reads.
     let now = c.new-taped.ensures.lobby_now in
     let drove = c.drive_taped-recorded.ensures in
-    records_as _ c.args.options _ _ _ _ _ _ _ _ link left reads _ _ _ _ _ _ _ _
-    c.ended_recording.ensures (search rules) (search rules)
+    let taped = c.drive_taped-recorded.result.taped in
+    records_as _ c.args.options _ _ _ (g.L.Lobby.told taped.lobby.now) _ _
+    (g.L.Lobby.counts taped.lobby.now) _ link left reads _ _ (g.O.Sink.held taped.out.now) _ _ _
+    (g.O.Sink.faults taped.out.now) _ c.ended_recording.ensures (search rules) (search rules)
     (ap g.O.Sink.held (sym c.new-taped.ensures.out_now)) (search rules)
     (ap g.O.Sink.faults (sym c.new-taped.ensures.out_now)) (search rules)
     (records _ c.args.options _ _ _ _ _ _ link left reads c.budget_of.result c.sink_failed.result
