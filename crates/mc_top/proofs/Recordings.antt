@@ -2,6 +2,7 @@
 -- serving ended.
 use Rattle.std.proofs.Common.{◌≡◌, ◌≢◌, ℕ, ◌+◌, ◌-◌, inl, inr, Bool, true, false, cond, List, [], ◌∷◌}
 use Rattle.std.proofs.Common.{◌++◌, length, take, Option, Some, None, Result, Ok, Err, refl, sym, ap}
+use Rattle.std.proofs.Common.{subst}
 use Rattle.std.proofs.Common.{◌∙◌, arith}
 use Rattle.std.proofs.lemmas.Bool.Decides.{nat_tests}
 use Rattle.std.specs.Prelude.{◌↔◌}
@@ -27,7 +28,8 @@ use Rattle.mc_words.specs.declared.arguments.ServeOptions.{ServeOptions}
 use Rattle.mc_words.specs.declared.ended.Ended.{Ended}
 use Rattle.mc_words.specs.declared.ended.Ended.TheVariants as ended
 use Rattle.mc_words.specs.Devices.{Devices, LinkDevice, devices}
-use Rattle.mc_top.specs.RecordPromise.{Records, ServePromise, Tapes, TapesAll, TapesPart}
+use Rattle.mc_top.specs.RecordPromise.{Records, ServePromise, ServesBy, Tapes, TapesAll}
+use Rattle.mc_top.specs.RecordPromise.{TapesPart}
 use Rattle.mc_top.specs.Recording.{IsLost, ended_by_end, ended_recording}
 use Rattle.mc_top.specs.ReplayPromise.{start_of}
 use Rattle.mc_top.specs.ServePromise.{HasServed, Sums, budget_of}
@@ -254,9 +256,11 @@ records_as plans options how how' old new new' counts counts' counts'' link left
 pub served_with : (plans : Plans) (options : ServeOptions) (how : Ended) (before after : Devices) →
     options.capture ≡ true → Records plans options how before after →
     ServePromise plans options how before after
-served_with plans options how before after is said = rw is said
+served_with plans options how before after is said =
+    subst (λ (b : Bool). ServesBy b plans options how before after) (sym is) said
 
 pub served_without : (plans : Plans) (options : ServeOptions) (how : Ended)
     (before after : Devices) → options.capture ≡ false → Sums plans options how before after →
     ServePromise plans options how before after
-served_without plans options how before after is said = rw is said
+served_without plans options how before after is said =
+    subst (λ (b : Bool). ServesBy b plans options how before after) (sym is) said

@@ -44,14 +44,14 @@ returns g c = elim c.match-command.branch [
   | in-View w ↦
       let last = rw (w.ended-is, w.out-is) at c.finish.ensures in
       rw (w.in-View.is, w.link-is, w.input-is) (
-        (refl, refl),
+        ((refl, refl), refl),
         capture_kept viewed w.view-ended.result c.finish.result _ _ _ _ _ _ _ _ _ _
             viewed_is_text w.view-ended.ensures last,
       )
   | in-Show w ↦
       let last = rw (w.ended-is, w.out-is) at c.finish.ensures in
       rw (w.in-Show.is, w.link-is, w.input-is) (
-        (refl, refl),
+        ((refl, refl), refl),
         capture_kept (shown w.in-Show.client) w.show-ended.result c.finish.result
             _ _ _ _ _ _ _ _ _ _ (shown_is_text w.in-Show.client) w.show-ended.ensures last,
       )

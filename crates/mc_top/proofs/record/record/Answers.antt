@@ -1,4 +1,5 @@
 use Rattle.std.proofs.Common.{rules, inl, sym, ap}
+use Rattle.mc_capture.specs.TapeStart as tapes
 use Rattle.mc_top.specs.ReplayPromise.{start_of}
 use Rattle.mc_top.proofs.Recordings.{records, records_as, untaped}
 use Rattle.mc_top.proofs.record.record.Goals as goal
@@ -19,7 +20,8 @@ returns g c = λ link left reads.
     (g.O.Sink.faults taped.out.now) _ c.ended_recording.ensures (search rules) (search rules)
     (ap g.O.Sink.held (sym c.new-taped.ensures.out_now)) (search rules)
     (ap g.O.Sink.faults (sym c.new-taped.ensures.out_now)) (search rules)
-    (records _ c.args.options _ _ _ _ _ _ link left reads c.budget_of.result c.sink_failed.result
+    (records _ c.args.options (tapes.start_of g.L.Lobby.told g.L.Lobby.counts g.O.Sink.held
+    g.O.Sink.faults c.new-taped.result) _ _ _ _ _ link left reads c.budget_of.result c.sink_failed.result
     c.drive_taped-recorded.result.end _ (rw now c.pace.ensures.tells)
     (rw now c.pace.ensures.falls.faults) c.budget_of.ensures
     (drove.drove (start_of _ c.args.options.world) c.requires.world c.in-Ok.ensures.stands)
