@@ -58,7 +58,7 @@ returns g c = elim c.match-command.branch [
   | in-Load w ↦
       let last = rw (w.ended-is, w.out-is) at c.finish.ensures in
       rw (w.in-Load.is, w.link-is, w.input-is) (
-        ((refl, refl), refl, refl, refl),
+        ((refl, refl), refl, (refl, refl)),
         load_kept w.in-Load.options w.load-ended.result c.finish.result _ _ _ _ _ _
             w.load-ended.ensures last,
       )
