@@ -1,0 +1,6 @@
+mod Taken
+mod Takings
+mod Owed
+mod Played
+mod Counts
+mod Keeps
