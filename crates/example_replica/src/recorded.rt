@@ -1,5 +1,5 @@
 use mc_bytes::NoMemory;
-use mc_words::put_line;
+use mc_text::put_line;
 use std::alloc::Global;
 
 /// The bytes of lines of hex; empty lines and those that begin with a number sign are left out.

@@ -11,7 +11,7 @@ use Rattle.mc_frame.proofs.Cuts.{cut_exists}
 use Rattle.mc_wire.specs.LinkStage.{LinkStage}
 use Rattle.mc_wire.specs.LinkTold.{LinkTold}
 use Rattle.mc_wire.specs.Stream.{Grows}
-use Rattle.mc_words.specs.Passes.{SendsPart}
+use Rattle.mc_text.specs.Passes.{SendsPart}
 use Rattle.mc_replica.specs.declared.dump_fault.DumpFault.{DumpFault}
 use Rattle.mc_replica.specs.declared.dump_fault.DumpFault.TheVariants as dumps
 use Rattle.mc_bot.specs.declared.act.Line.{Line}

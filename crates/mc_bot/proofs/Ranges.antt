@@ -16,9 +16,9 @@ use lib.Utf8.{encode, encodes}
 use Rattle.mc_fields.specs.declared.position.Cell.{Cell}
 use Rattle.mc_fields.specs.Position.{FitsCell, FitsHalf}
 use Rattle.mc_fields.specs.Text.{FitsText}
-use Rattle.mc_words.specs.Digits.{digits_number, within}
-use Rattle.mc_words.specs.Lines.{is_skipped, goes_past, lines_of}
-use Rattle.mc_words.specs.Script.{has_zeros, number_of, words_of}
+use Rattle.mc_text.specs.Digits.{digits_number, within}
+use Rattle.mc_text.specs.Lines.{is_skipped, goes_past, lines_of}
+use Rattle.mc_text.specs.Words.{has_zeros, number_of, words_of}
 use Rattle.mc_bot.specs.declared.act.Act.{Act}
 use Rattle.mc_bot.specs.declared.act.Act.TheVariants as acts
 use Rattle.mc_bot.specs.declared.act.Line.{Line}

@@ -7,10 +7,10 @@ use Rattle.std.specs.Str.{IsUtf8, chars}
 use Rattle.std.proofs.lemmas.Bool.Decides.{nat_tests}
 use Rattle.std.proofs.lemmas.List.Splits.{length-slice_split}
 use Rattle.std.proofs.lemmas.Str.{is_utf8-from_IsUtf8}
-use Rattle.mc_words.specs.Lines.{lines_of, text_max}
-use Rattle.mc_words.proofs.Reading.{left_lines, left_size, CutsNext}
-use Rattle.mc_words.specs.Script.{is_space, words_of}
-use Rattle.mc_words.proofs.Scripts.{not_text}
+use Rattle.mc_text.specs.Lines.{lines_of, text_max}
+use Rattle.mc_text.proofs.Reading.{left_lines, left_size, CutsNext}
+use Rattle.mc_text.specs.Words.{is_space, words_of}
+use Rattle.mc_text.proofs.Cuts.{not_text}
 use Rattle.mc_bot.specs.declared.act.Unread.{Unread}
 use Rattle.mc_bot.specs.declared.act.Unread.TheVariants as unread
 use Rattle.mc_bot.specs.declared.script.ScriptKind.{ScriptKind}

@@ -11,7 +11,7 @@ use Rattle.mc_replica.specs.Slots.{number_of, open_slot, window_of}
 use Rattle.mc_wire.specs.LinkStage.{LinkStage}
 use Rattle.mc_wire.specs.LinkTold.{LinkTold, Exchanges}
 use Rattle.mc_wire.specs.Stream.{Grows}
-use Rattle.mc_words.specs.Passes.{SendsPart}
+use Rattle.mc_text.specs.Passes.{SendsPart}
 use Rattle.mc_bot.specs.declared.bot_fault.BotFault.{BotFault}
 use Rattle.mc_bot.specs.declared.bot_fault.BotFault.TheVariants as faults
 use Rattle.mc_bot.specs.Arriving.{HasPassed}

@@ -2,7 +2,7 @@
 -- project: the first line that is not left out joins, and no later one does.
 use Rattle.std.specs.Prelude.{ℕ, ◌+◌, List, [], ◌∷◌, ◌++◌, length, Option, Some, None, Result, Ok, Err}
 use Rattle.std.specs.Prelude.{if◌then◌else◌}
-use Rattle.mc_words.specs.Lines.{lines_of, is_skipped, goes_past}
+use Rattle.mc_text.specs.Lines.{lines_of, is_skipped, goes_past}
 use Rattle.mc_bot.specs.declared.act.Line.{Line}
 use Rattle.mc_bot.specs.declared.act.Said.{Said}
 use Rattle.mc_bot.specs.declared.act.Said.TheVariants.{Join, Does}

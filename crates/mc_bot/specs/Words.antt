@@ -6,7 +6,7 @@ use Rattle.std.specs.Option.{option_map}
 use Rattle.std.specs.Str.{bytes_eq, is_utf8, chars}
 use lib.IntN.{ℤ, pos, neg_ℤ}
 use Rattle.mc_fields.specs.declared.position.Cell.{Cell}
-use Rattle.mc_words.specs.Script.{number_of, words_of}
+use Rattle.mc_text.specs.Words.{number_of, words_of}
 use Rattle.mc_bot.specs.declared.act.Act.{Act}
 use Rattle.mc_bot.specs.declared.act.Act.TheVariants as acts
 use Rattle.mc_bot.specs.declared.act.Said.{Said}

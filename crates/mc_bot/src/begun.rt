@@ -1,6 +1,6 @@
 ghost use Rattle.std.specs.Prelude.{◌≡◌, ◌≤◌, ◌⊎◌, [], ◌∷◌, ◌++◌, OnOk, length};
-ghost use Rattle.mc_words.specs.Lines.{lines_of};
-ghost use Rattle.mc_words.specs.declared.lines.TheConstants.{TEXT_MAX};
+ghost use Rattle.mc_text.specs.Lines.{lines_of};
+ghost use Rattle.mc_text.specs.declared.lines.TheConstants.{TEXT_MAX};
 ghost use Rattle.mc_bot.specs.Script.{line_after, lines_after, not_begun, said_next};
 ghost use Rattle.mc_bot.specs.ScriptRead.{AreTaken, IsTaken, read_at};
 
@@ -8,7 +8,7 @@ use crate::act::{Line, Said, Unread};
 use crate::line::line_said;
 use crate::{ScriptFault, ScriptKind, ScriptRead};
 use mc_bytes::{NoMemory, Text};
-use mc_words::{cut_line, goes_past, is_skipped};
+use mc_text::{cut_line, goes_past, is_skipped};
 use std::alloc::Global;
 use std::marker::Model;
 

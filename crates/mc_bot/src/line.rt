@@ -1,5 +1,5 @@
 ghost use Rattle.std.specs.Prelude.{◌≡◌, ◌∷◌, MatchOption, true, false, drop};
-ghost use Rattle.mc_words.specs.Script.{number_of, words_of};
+ghost use Rattle.mc_text.specs.Words.{number_of, words_of};
 ghost use Rattle.mc_bot.specs.declared.act.Act.TheVariants as acts;
 ghost use Rattle.mc_bot.specs.ScriptRead.{IsRead};
 ghost use Rattle.mc_bot.specs.Words.{byte_of, by_one, by_three, by_two, cell_of, five_words};
@@ -12,7 +12,7 @@ use crate::act::{Act, Said, Unread};
 use crate::numbers::{byte, cell, int, short, state, turn};
 use crate::texts::text_to;
 use mc_fields::Cell;
-use mc_words::{cut_word, is_text, number};
+use mc_text::{cut_word, is_text, number};
 use std::alloc::Global;
 
 // ---- what is done with numbers

@@ -5,7 +5,7 @@ ghost use Rattle.mc_bot.specs.Words.{byte_of, cell_of, int_of, short_of, state_o
 ghost use Rattle.mc_bot.specs.Words.{whole_of};
 
 use mc_fields::Cell;
-use mc_words::number;
+use mc_text::number;
 
 /// The whole number of at most `most`, and of at most `below` below zero, that a word writes.
 #[tactic(auto, unfolding(crate::specs::Words::whole_of))]

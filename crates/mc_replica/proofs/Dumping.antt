@@ -12,10 +12,10 @@ use Rattle.mc_column.specs.Cells.{ColumnValue}
 use Rattle.mc_land.specs.Places.{Place}
 use Rattle.mc_model.specs.Replica.{Replica}
 use Rattle.mc_model.specs.Sight.{Seen, Sight}
-use Rattle.mc_words.specs.Ended.{ended_line}
+use Rattle.mc_text.specs.Lines.{ended_line}
 use Rattle.mc_wire.specs.Stream.{Grows}
-use Rattle.mc_words.specs.Passes.{Breaks, Passes, SendsPart}
-use Rattle.mc_words.proofs.Passing.{breaks_next, passes_next, passes_none}
+use Rattle.mc_text.specs.Passes.{Breaks, Passes, SendsPart}
+use Rattle.mc_text.proofs.Passing.{breaks_next, passes_next, passes_none}
 use Rattle.mc_replica.specs.declared.player_list.Listed.{Listed}
 use Rattle.mc_replica.specs.Dump.{chat_line, column_line, dump_text, entity_line, player_line}
 use Rattle.mc_replica.specs.Dump.{sight_lines, text_of, times_lines, window_lines}

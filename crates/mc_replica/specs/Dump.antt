@@ -18,7 +18,7 @@ use Rattle.mc_model.specs.declared.seen.SeenKind.TheVariants as seen_kinds
 use Rattle.mc_model.specs.Names.{uuid_text}
 use Rattle.mc_model.specs.Replica.{Replica}
 use Rattle.mc_model.specs.Sight.{ChestWindow, Seen, Sight}
-use Rattle.mc_words.specs.Ended.{ended_line}
+use Rattle.mc_text.specs.Lines.{ended_line}
 
 -- ---- words
 

@@ -1,6 +1,6 @@
 -- Why a dump was not written whole, by what was met in writing its lines.
-use Rattle.mc_words.specs.declared.unfinished.Unfinished.{Unfinished}
-use Rattle.mc_words.specs.declared.unfinished.Unfinished.TheVariants as unfinished
+use Rattle.mc_text.specs.declared.unfinished.Unfinished.{Unfinished}
+use Rattle.mc_text.specs.declared.unfinished.Unfinished.TheVariants as unfinished
 use Rattle.mc_replica.specs.declared.dump_fault.DumpFault.{DumpFault}
 use Rattle.mc_replica.specs.declared.dump_fault.DumpFault.TheVariants as faults
 

@@ -1,13 +1,13 @@
 ghost use Rattle.std.specs.Prelude.{◌≡◌, [], List, ℕ, IfOk, OnOk, OnErr, IsErrOf, string_bytes};
 ghost use Rattle.std.specs.List.{flat_map};
 ghost use Rattle.mc_wire.specs.Count.{Rose, StandsOrRises};
-ghost use Rattle.mc_words.specs.Ended.{ended_line};
-ghost use Rattle.mc_words.specs.Passes.{Breaks, Passes};
+ghost use Rattle.mc_text.specs.Lines.{ended_line};
+ghost use Rattle.mc_text.specs.Passes.{Breaks, Passes};
 
 use crate::lines::Dumped;
 use mc_bytes::NoMemory;
 use mc_wire::Sink;
-use mc_words::{Unfinished, put};
+use mc_text::{Unfinished, put};
 use std::alloc::Global;
 
 /// The line of something, with its end.

@@ -2,7 +2,7 @@ ghost use Rattle.std.specs.Prelude.{◌≡◌};
 
 use mc_bytes::NoMemory;
 use mc_wire::Failed;
-use mc_words::Unfinished;
+use mc_text::Unfinished;
 
 /// Why a dump was not written whole.
 #[derive(Clone, Copy, Debug, PartialEq, Eq)]

@@ -17,7 +17,7 @@ ghost use Rattle.mc_replica.specs.KeptPlayers.{rows_of};
 ghost use Rattle.mc_replica.specs.Slots.{window_of};
 ghost use Rattle.mc_wire.specs.Count.{Rose, StandsOrRises};
 ghost use Rattle.mc_wire.specs.Stream.{Grows};
-ghost use Rattle.mc_words.specs.Passes.{Breaks, Passes, SendsPart};
+ghost use Rattle.mc_text.specs.Passes.{Breaks, Passes, SendsPart};
 
 use crate::columns::Columns;
 use crate::dump::{put_all, put_text};
@@ -34,7 +34,7 @@ use mc_fields::Cell;
 use mc_packets::Down;
 use mc_slots::Slot;
 use mc_wire::Sink;
-use mc_words::{Unfinished, write_out};
+use mc_text::{Unfinished, write_out};
 use std::alloc::Global;
 use std::marker::Model;
 

@@ -4,7 +4,7 @@ ghost use Rattle.mc_bytes.specs.declared.fault.FieldFault.{FieldFault};
 ghost use Rattle.mc_bytes.specs.declared.fault.ReadFault.TheVariants as faults;
 ghost use Rattle.mc_wire.specs.Count.{Rose, StandsOrRises};
 ghost use Rattle.mc_wire.specs.Stream.{Grows};
-ghost use Rattle.mc_words.specs.Passes.{SendsPart};
+ghost use Rattle.mc_text.specs.Passes.{SendsPart};
 ghost use Rattle.mc_replica.specs.Asking.{CanAsk};
 
 use crate::dump_fault::DumpFault;

@@ -12,7 +12,7 @@ pub fn script(words: &mut Words<'_>, answer: &mut Answer) {
         Ok(script) => put_script(&script, answer),
         Err(ScriptError::Bad(bad)) => {
             answer.word("bad at");
-            answer.word(bad.line);
+            answer.word(bad.at);
             answer.name(bad.kind);
         }
         Err(ScriptError::NoMemory) => answer.lose(),

@@ -21,8 +21,8 @@ use Rattle.mc_laws.specs.Pieces.{emptied}
 use Rattle.mc_laws.proofs.Cutting.Room.{seat_owing}
 use Rattle.mc_events.specs.Served.{ServerValue}
 use Rattle.mc_events.specs.Stands.{Stands}
-use Rattle.mc_words.specs.Passes.{Breaks, Passes}
-use Rattle.mc_words.proofs.Passing.{breaks_next, passes_next, passes_none}
+use Rattle.mc_text.specs.Passes.{Breaks, Passes}
+use Rattle.mc_text.proofs.Passing.{breaks_next, passes_next, passes_none}
 use Rattle.mc_status.specs.StatusText.{hex_line, sent_lines}
 use Rattle.mc_status.specs.Playing.{HasSeat, IsSmall}
 use Rattle.mc_status.proofs.Seats.{took_sits}

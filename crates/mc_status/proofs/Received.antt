@@ -22,8 +22,8 @@ use Rattle.mc_laws.proofs.Cutting.Pieces.{pieces_same, waits_on}
 use Rattle.mc_laws.proofs.Cutting.Reads.{bytes_closed, same_back}
 use Rattle.mc_words.specs.declared.bad_input.InputFault.{InputFault}
 use Rattle.mc_words.specs.declared.bad_input.InputFault.TheVariants as faults
-use Rattle.mc_words.specs.Passes.{Breaks, Passes, SendsPart}
-use Rattle.mc_words.proofs.Passing.{breaks_two, passes_none, passes_two}
+use Rattle.mc_text.specs.Passes.{Breaks, Passes, SendsPart}
+use Rattle.mc_text.proofs.Passing.{breaks_two, passes_none, passes_two}
 use Rattle.mc_events.specs.Asking.{stage_in}
 use Rattle.mc_events.specs.Served.{ServerValue}
 use Rattle.mc_events.specs.Stands.{Stands}

@@ -15,12 +15,12 @@ use Rattle.mc_events.specs.Served.{ServerValue}
 use Rattle.mc_wire.specs.Stream.{Grows}
 use Rattle.mc_words.specs.declared.bad_input.InputFault.{InputFault}
 use Rattle.mc_words.specs.declared.bad_input.InputFault.TheVariants as faults
-use Rattle.mc_words.specs.Lines.{PutsLine, goes_past, is_line_end, line_bytes, lines_of}
-use Rattle.mc_words.specs.Passes.{Passes, SendsPart}
+use Rattle.mc_text.specs.Lines.{PutsLine, goes_past, is_line_end, line_bytes, lines_of}
+use Rattle.mc_text.specs.Passes.{Passes, SendsPart}
 use Rattle.mc_words.specs.Told.{Told}
-use Rattle.mc_words.proofs.Growing.{part_of}
-use Rattle.mc_words.proofs.Passing.{breaks_here}
-use Rattle.mc_words.proofs.Reading.{left_lines, left_size, CutsNext}
+use Rattle.mc_text.proofs.Growing.{part_of}
+use Rattle.mc_text.proofs.Passing.{breaks_here}
+use Rattle.mc_text.proofs.Reading.{left_lines, left_size, CutsNext}
 use Rattle.mc_status.specs.StatusText.{Exchange, first_exchange, receives_next, ends_inside}
 use Rattle.mc_status.specs.StatusText.{last_byte_line, told_at_end, told_after, lines_told}
 use Rattle.mc_status.specs.StatusText.{goes_on, receives, receives_line, sent_lines, status_told}
@@ -225,7 +225,7 @@ module _ (most : ℕ) (input left line : List ℕ) (start middle held : Option (
       Meets most start middle old waits x → Receives most start held new lines fault
       (receives_next (length input) (size + (length line + 1)) x line)) → fault ≡ Some kind →
       Passes start held [] (status_told most input).text lines []
-      × (Some (record { line = count + 1; kind = kind }) ≡ (status_told most input).fault)
+      × (Some (record { at = count + 1; kind = kind }) ≡ (status_told most input).fault)
   told_fault fault kind receives is =
       let r = receives h.exchange h.meets in
       let told = told_by (Some kind) (sym r.fault ∙ is) in (
@@ -260,9 +260,9 @@ module _ (most : ℕ) (input : List ℕ) (start held : Option (List ℕ)) (count
         (sym (ap (λ (t : Told). t.text) at_end)) h.meets.passes
 
     end_fault : (b : Bool) → inside ≡ b → (status_told most input).fault
-        ≡ cond b (Some (record { line = last_byte_line input; kind = faults.Cut })) None
+        ≡ cond b (Some (record { at = last_byte_line input; kind = faults.Cut })) None
     end_fault b at = ap (λ (t : Told). t.fault) at_end ∙ ap (λ (b : Bool). cond b
-        (Some (record { line = last_byte_line input; kind = faults.Cut })) None)
+        (Some (record { at = last_byte_line input; kind = faults.Cut })) None)
         (sym (is h.exchange h.meets) ∙ at)
 
     pub told_done : inside ≡ false →
@@ -273,10 +273,10 @@ module _ (most : ℕ) (input : List ℕ) (start held : Option (List ℕ)) (count
     pub told_cut : (line : ℕ) → inside ≡ true →
         (count ≡ length (lines_of input) → line ≡ last_byte_line input) →
         Passes start held [] (status_told most input).text lines []
-        × (Some (record { line = line; kind = faults.Cut }) ≡ (status_told most input).fault)
+        × (Some (record { at = line; kind = faults.Cut }) ≡ (status_told most input).fault)
     told_cut line within last = let counted = h.counted in (
       end_passes,
-      ap (λ (n : ℕ). Some (record { line = n; kind = faults.Cut })) (last (omega (arith, counted)))
+      ap (λ (n : ℕ). Some (record { at = n; kind = faults.Cut })) (last (omega (arith, counted)))
           ∙ sym (end_fault true within),
     )
 

@@ -16,7 +16,7 @@ use Rattle.mc_laws.specs.Pieces.{Waits}
 use Rattle.mc_events.specs.Served.{ServerValue}
 use Rattle.mc_events.specs.Stands.{Stands}
 use Rattle.mc_words.specs.declared.bad_input.InputFault.{InputFault}
-use Rattle.mc_words.specs.Passes.{Passes}
+use Rattle.mc_text.specs.Passes.{Passes}
 use Rattle.mc_status.specs.declared.playing.TheConstants.{PIECE_MAX}
 use Rattle.mc_status.specs.StatusText.{Exchange, lone_settings, session_fault}
 

@@ -23,7 +23,7 @@ use Rattle.mc_model.specs.World.{World, Outcome, new_world, unread_of}
 use Rattle.mc_words.specs.declared.bad_input.InputFault.{InputFault}
 use Rattle.mc_words.specs.declared.bad_input.InputFault.TheVariants.{Hex, Frame, Packet, Login, Cut}
 use Rattle.mc_words.specs.declared.bad_input.InputFault.TheVariants.{Long}
-use Rattle.mc_words.specs.Lines.{lines_of, line_bytes, goes_past}
+use Rattle.mc_text.specs.Lines.{lines_of, line_bytes, goes_past}
 use Rattle.mc_words.specs.Told.{Told}
 
 -- ---- one connection
@@ -112,7 +112,7 @@ abbrev pub told_at_end : List ℕ → Exchange → Told
 told_at_end input x = record {
   text = x.text;
   fault = if ends_inside x.world then
-      Some (record { line = last_byte_line input; kind = Cut }) else None;
+      Some (record { at = last_byte_line input; kind = Cut }) else None;
 }
 
 -- after line n, whose fault ends it
@@ -120,7 +120,7 @@ abbrev pub told_after : ℕ → Exchange → Option InputFault → (Exchange →
 told_after n x (Some kind) later = record {
   text = x.text;
   fault =
-      Some (record { line = n; kind = kind });
+      Some (record { at = n; kind = kind });
 }
 told_after n x None later = later x
 

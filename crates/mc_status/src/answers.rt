@@ -6,7 +6,7 @@ ghost use Rattle.mc_laws.specs.Pieces.{emptied};
 ghost use Rattle.mc_model.specs.Packets.{Sent, bytes_of, frame_of};
 ghost use Rattle.mc_model.specs.World.{Seat};
 ghost use Rattle.mc_wire.specs.Count.{Rose, StandsOrRises};
-ghost use Rattle.mc_words.specs.Passes.{Breaks, Passes};
+ghost use Rattle.mc_text.specs.Passes.{Breaks, Passes};
 ghost use Rattle.mc_status.specs.StatusText.{hex_line, sent_lines};
 ghost use Rattle.mc_status.specs.Playing.{HasSeat, IsSmall};
 
@@ -15,7 +15,7 @@ use mc_bytes::{Cursor, Kind, NoMemory, Stop};
 use mc_events::Server;
 use mc_fields::take_varint_within;
 use mc_wire::Sink;
-use mc_words::{Unfinished, put};
+use mc_text::{Unfinished, put};
 
 /// Takes all that the connection is owed, and appends it.
 pub fn take_owed(server: &mut Server, owed: &mut Vec<u8>) -> Result<(), NoMemory>

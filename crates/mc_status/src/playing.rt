@@ -8,7 +8,7 @@ ghost use Rattle.mc_model.specs.World.{Seat, World};
 ghost use Rattle.mc_events.specs.Asking.{stage_in};
 ghost use Rattle.mc_events.specs.Stands.{Stands};
 ghost use Rattle.mc_wire.specs.Count.{Rose, StandsOrRises};
-ghost use Rattle.mc_words.specs.Passes.{Breaks, Passes, SendsPart};
+ghost use Rattle.mc_text.specs.Passes.{Breaks, Passes, SendsPart};
 ghost use Rattle.mc_status.specs.StatusText.{Exchange, ends_inside, first_exchange, receives};
 ghost use Rattle.mc_status.specs.StatusText.{sent_lines, shown_fault};
 ghost use Rattle.mc_status.specs.Playing.{HasSeat, IsAnswered, Meets, most_at};
@@ -21,7 +21,8 @@ use mc_events::{Input, Server};
 use mc_land::Terrain;
 use mc_model::{Cause, Settings, Stage};
 use mc_wire::Sink;
-use mc_words::{InputFault, Unfinished};
+use mc_text::Unfinished;
+use mc_words::InputFault;
 use std::alloc::Global;
 
 /// The most bytes that come to the server at once: what answers so many has room in an outbox, and

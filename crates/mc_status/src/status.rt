@@ -3,15 +3,16 @@ ghost use Rattle.std.specs.Prelude.{IfOk, OnOk, OnErr, IsErrOf};
 ghost use Rattle.mc_model.specs.Game.{AreSettings};
 ghost use Rattle.mc_wire.specs.Count.{Rose, StandsOrRises};
 ghost use Rattle.mc_wire.specs.Stream.{Grows};
-ghost use Rattle.mc_words.specs.Lines.{lines_of};
-ghost use Rattle.mc_words.specs.Passes.{Passes, SendsPart};
+ghost use Rattle.mc_text.specs.Lines.{lines_of};
+ghost use Rattle.mc_text.specs.Passes.{Passes, SendsPart};
 ghost use Rattle.mc_status.specs.StatusText.{Exchange, first_exchange, receives_next};
 ghost use Rattle.mc_status.specs.StatusText.{last_byte_line, status_told};
 ghost use Rattle.mc_status.specs.Playing.{Meets, Receives};
 
 use crate::playing::Client;
 use mc_wire::Sink;
-use mc_words::{BadInput, InputFault, Unfinished, cut_line, goes_past, put_line, write_out};
+use mc_text::{Unfinished, cut_line, goes_past, put_line, write_out};
+use mc_words::{BadInput, InputFault};
 use std::alloc::Global;
 
 /// Receives the next line, up to whose end a text of `len` bytes has `size`, and gives its fault.
@@ -97,7 +98,7 @@ fn receive_text<O: Sink>(
         size += line.len() + 1;
         let fault = receive_next(most, client, &mut bytes, line, input.len(), size, out)?;
         if let Some(kind) = fault {
-            return Ok(Some(BadInput { line: count, kind }));
+            return Ok(Some(BadInput { at: count, kind }));
         }
         rest = after;
     }
@@ -105,7 +106,7 @@ fn receive_text<O: Sink>(
         return Ok(None);
     }
     Ok(Some(BadInput {
-        line: last_byte_line(count, input),
+        at: last_byte_line(count, input),
         kind: InputFault::Cut,
     }))
 }

@@ -15,7 +15,7 @@ use Rattle.mc_words.specs.Devices.{Devices, LinkDevice, WroteLast, streams}
 use Rattle.mc_words.specs.Ended.{bad_input_line, budget_line, net_fault_line, read_fault_line}
 use Rattle.mc_words.specs.Ended.{refused_line, status_of}
 use Rattle.mc_words.specs.Finishing.{Finishes}
-use Rattle.mc_words.specs.Passes.{SendsPart}
+use Rattle.mc_text.specs.Passes.{SendsPart}
 use Rattle.mc_bot.specs.Playing.{BotEnd, Course, all_sent, ends, refused_for, waiting}
 use Rattle.mc_top.specs.BotPromise.{Begins, BotEnds, BotPromise, DumpsPart, Ends, IsNoScript}
 use Rattle.mc_top.specs.BotPromise.{IsPlayed, Waits, bot_fault}

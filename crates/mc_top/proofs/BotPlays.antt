@@ -6,7 +6,7 @@ use Rattle.mc_replica.specs.Dump.{dump_text}
 use Rattle.mc_wire.specs.Count.{Rose}
 use Rattle.mc_words.specs.declared.arguments.BotOptions.{BotOptions}
 use Rattle.mc_words.specs.Devices.{LinkDevice, streams}
-use Rattle.mc_words.specs.Passes.{SendsPart}
+use Rattle.mc_text.specs.Passes.{SendsPart}
 use Rattle.mc_bot.specs.declared.bot_fault.BotFault.{BotFault}
 use Rattle.mc_bot.specs.declared.bot_fault.BotFault.TheVariants as faults
 use Rattle.mc_bot.specs.Played.{HasPlayedScript, PlayLeft, PlayStart, replica_rules}

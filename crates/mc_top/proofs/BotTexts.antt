@@ -8,8 +8,8 @@ use Rattle.mc_bot.specs.declared.script.ScriptKind.{ScriptKind}
 use Rattle.mc_bot.specs.declared.script.ScriptKind.TheVariants.{Long}
 use Rattle.mc_bot.specs.Script.{Begun, ScriptValue, finished, line_after, lines_after, not_begun}
 use Rattle.mc_bot.specs.Script.{script_of, then_lines}
-use Rattle.mc_words.specs.Devices.{ReadsText}
-use Rattle.mc_words.specs.Lines.{text_max, goes_past}
+use Rattle.mc_text.specs.Lines.{ReadsText}
+use Rattle.mc_text.specs.Lines.{text_max, goes_past}
 use Rattle.mc_words.proofs.Delivering.{of_read}
 use Rattle.mc_top.specs.BotPromise.{IsNoScript, IsScript, bad_of, bot_fault, fault_in}
 use Rattle.mc_top.proofs.TextFronts.{StopsAtLong, front_same, long_not_fine}
@@ -61,7 +61,7 @@ lines_stop = record {
       (λ next. lines_after b (count + 1) (size + (length line + 1)) next own_rest) same);
   long = λ a count size begun line rest past fine.
       let gone = line_past (count + 1) a (size + (length line + 1)) begun line past in
-      bad_or_ok (record { line = count + 1; kind = Long }) fine.0 (rw gone at fine.1);
+      bad_or_ok (record { at = count + 1; kind = Long }) fine.0 (rw gone at fine.1);
   on = λ a count size begun line rest fine.
       then_on (count + 1) (line_after (count + 1) a (size + (length line + 1)) begun line)
       (λ next. lines_after a (count + 1) (size + (length line + 1)) next rest) fine;

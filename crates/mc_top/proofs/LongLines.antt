@@ -12,7 +12,7 @@ use Rattle.mc_words.specs.declared.bad_input.InputFault.TheVariants as faults
 use Rattle.mc_words.specs.declared.script_line.Before.{Before}
 use Rattle.mc_words.specs.declared.script_line.ScriptEvent.{ScriptEvent}
 use Rattle.mc_words.specs.declared.script_line.ScriptEvent.TheVariants.{Joined, Came, Ticks}
-use Rattle.mc_words.specs.Lines.{lines_of, text_max, goes_past, size_of, HoldsByte}
+use Rattle.mc_text.specs.Lines.{lines_of, text_max, goes_past, size_of, HoldsByte}
 use Rattle.mc_words.specs.Script.{is_next, numbered, join_event}
 use Rattle.mc_words.specs.Script.{bytes_event, ticks_event, words_event, some_event}
 use Rattle.mc_words.specs.Script.{line_event, after_event, with_events, then_, at_first}
@@ -154,9 +154,9 @@ long_step : (len count size : ℕ) (before : Before) (done lines : List (List �
     (r : Result (Option ScriptEvent) InputFault) →
     length done ≡ count → size_of done ≡ size → (len ≤ text_max) ⊎ (size_of done ≤ text_max) →
     line_event len (size + (length line + 1)) before line ≡ r →
-    then_ (count + 1) before r later ≡ Err (record { line = n; kind = faults.Long }) →
+    then_ (count + 1) before r later ≡ Err (record { at = n; kind = faults.Long }) →
     ((next : Before) → goes_past len (size + (length line + 1)) ≡ false → later next
-    ≡ Err (record { line = n; kind = faults.Long }) → GoesPast len (done ++ line ∷ lines) n) →
+    ≡ Err (record { at = n; kind = faults.Long }) → GoesPast len (done ++ line ∷ lines) n) →
     GoesPast len (done ++ line ∷ lines) n
 long_step len count size before done lines line n later (Ok None) counted sized within is e more =
     more before (read_within len _ before line None is) e
@@ -164,9 +164,9 @@ long_step len count size before done lines line n later
     (Ok (Some event)) counted sized within is e more = more (after_event before event)
     (read_within len _ before line (Some event) is) (front_fault (event ∷ []) _ _ e)
 long_step len count size before done lines line n later (Err kind) counted sized within is e more =
-    let same = fault_is (record { line = count + 1; kind = kind })
-    (record { line = n; kind = faults.Long }) e in
-    let number : count + 1 ≡ n = ap (λ (b : BadInput). b.line) same in
+    let same = fault_is (record { at = count + 1; kind = kind })
+    (record { at = n; kind = faults.Long }) e in
+    let number : count + 1 ≡ n = ap (λ (b : BadInput). b.at) same in
     let long : kind ≡ faults.Long = ap (λ (b : BadInput). b.kind) same in
     let past = past_is len (size + (length line + 1))
     (fault_past len _ before line (is ∙ ap (λ (k : InputFault). Err k) long)) in
@@ -176,7 +176,7 @@ long_step len count size before done lines line n later (Err kind) counted sized
 
 lines_long : (len count size : ℕ) (before : Before) (done lines : List (List ℕ)) (n : ℕ) →
     length done ≡ count → size_of done ≡ size → (len ≤ text_max) ⊎ (size_of done ≤ text_max) →
-    lines_events len count size before lines ≡ Err (record { line = n; kind = faults.Long }) →
+    lines_events len count size before lines ≡ Err (record { at = n; kind = faults.Long }) →
     GoesPast len (done ++ lines) n
 unfolding lines_events
 lines_long len count size before done [] n counted sized within e = absurd cc
@@ -196,7 +196,7 @@ lines_long len count size before done (line ∷ lines) n counted sized within e 
 
 -- the line that is too long holds the first byte too many
 pub long_holds : (text : List ℕ) (n : ℕ) →
-    script_of text ≡ Err (record { line = n; kind = faults.Long }) → HoldsByte text n (text_max + 1)
+    script_of text ≡ Err (record { at = n; kind = faults.Long }) → HoldsByte text n (text_max + 1)
 unfolding script_of
 long_holds text n e =
     let past = lines_long (length text) 0 0 at_first [] (lines_of text) n refl refl

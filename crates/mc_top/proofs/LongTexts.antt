@@ -8,7 +8,7 @@ use Rattle.mc_words.specs.declared.bad_input.InputFault.{InputFault}
 use Rattle.mc_words.specs.declared.bad_input.InputFault.TheVariants.{Long}
 use Rattle.mc_words.specs.declared.script_line.Before.{Before}
 use Rattle.mc_words.specs.declared.script_line.ScriptEvent.{ScriptEvent}
-use Rattle.mc_words.specs.Lines.{line_bytes, text_max, goes_past}
+use Rattle.mc_text.specs.Lines.{line_bytes, text_max, goes_past}
 use Rattle.mc_words.specs.Told.{Told}
 use Rattle.mc_status.specs.StatusText.{Exchange, first_exchange, receives_line, receives_next}
 use Rattle.mc_status.specs.StatusText.{told_after, lines_told, status_told}
@@ -47,7 +47,7 @@ lines_stop = record {
       (λ y. lines_told a (count + 1) (size + (length line + 1)) y rest)
       (λ y. lines_told b (count + 1) (size + (length line + 1)) y own_rest) same);
   long = λ a count size x line rest past fine.
-      some_fault (record { line = count + 1; kind = Long }) (rw past at fine);
+      some_fault (record { at = count + 1; kind = Long }) (rw past at fine);
   on = λ a count size x line rest fine.
       let next = receives_next (length a) (size + (length line + 1)) x line in (
         next,
@@ -131,7 +131,7 @@ events_stop = record {
       (λ next. lines_events b (count + 1) (size + (length line + 1)) next own_rest) same);
   long = λ a count size before line rest past fine.
       let gone = event_past a (size + (length line + 1)) before line past in
-      bad_or_ok (record { line = count + 1; kind = Long }) fine.0 (rw gone at fine.1);
+      bad_or_ok (record { at = count + 1; kind = Long }) fine.0 (rw gone at fine.1);
   on = λ a count size before line rest fine.
       let on = then_on (count + 1) before (line_event a (size + (length line + 1)) before line)
       (λ next. lines_events a (count + 1) (size + (length line + 1)) next rest) fine.0 fine.1 in

@@ -21,7 +21,7 @@ use Rattle.mc_events.specs.Stands.{Stands}
 use Rattle.mc_server.specs.Minded.{ServedValue, StandsFor}
 use Rattle.mc_server.proofs.Plans.{step_plans}
 use Rattle.mc_words.specs.declared.script_line.ScriptEvent.{ScriptEvent}
-use Rattle.mc_words.proofs.Growing.{grows_two, part_of}
+use Rattle.mc_text.proofs.Growing.{grows_two, part_of}
 use Rattle.mc_top.specs.ReplayText.{lines_after, settled, replay_text, line_events, events_of}
 use Rattle.mc_top.specs.ReplayText.{is_shut, owes}
 use Rattle.mc_top.specs.Replaying.{HasPlayed, HasStopped, replay_world, line_ticks, ticks_of}

@@ -11,18 +11,18 @@ use Rattle.mc_model.specs.World.{new_world}
 use Rattle.mc_laws.proofs.Headline.Promise.{headline}
 use Rattle.mc_words.specs.declared.bad_input.BadInput.{BadInput}
 use Rattle.mc_words.specs.declared.script_line.ScriptEvent.{ScriptEvent}
-use Rattle.mc_words.specs.declared.unfinished.Unfinished.{Unfinished}
-use Rattle.mc_words.specs.declared.unfinished.Unfinished.TheVariants.{Failed, NoMemory}
-use Rattle.mc_words.specs.Devices.{ReadsText}
+use Rattle.mc_text.specs.declared.unfinished.Unfinished.{Unfinished}
+use Rattle.mc_text.specs.declared.unfinished.Unfinished.TheVariants.{Failed, NoMemory}
+use Rattle.mc_text.specs.Lines.{ReadsText}
 use Rattle.mc_words.specs.declared.ended.Ended.{Ended}
 use Rattle.mc_words.specs.declared.ended.Ended.TheVariants as ended
 use Rattle.mc_words.specs.Ended.{ended_told}
 use Rattle.mc_words.specs.Finishing.{Finishes}
-use Rattle.mc_words.specs.Lines.{text_max}
+use Rattle.mc_text.specs.Lines.{text_max}
 use Rattle.mc_words.specs.Script.{script_of}
 use Rattle.mc_words.specs.Told.{Tells}
 use Rattle.mc_words.proofs.Delivering.{IsTelling, of_read}
-use Rattle.mc_words.proofs.Growing.{grows_none}
+use Rattle.mc_text.proofs.Growing.{grows_none}
 use Rattle.mc_top.specs.ReplayText.{events_of, replay_text, replay_log}
 use Rattle.mc_top.specs.Replaying.{HasStopped}
 use Rattle.mc_top.specs.ReplayPromise.{IsPlayed, IsScriptText, KeepsAll, Plays, replay_told}

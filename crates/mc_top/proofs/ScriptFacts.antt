@@ -24,7 +24,7 @@ use Rattle.mc_words.specs.declared.bad_input.InputFault.TheVariants as faults
 use Rattle.mc_words.specs.declared.script_line.Before.{Before}
 use Rattle.mc_words.specs.declared.script_line.ScriptEvent.{ScriptEvent}
 use Rattle.mc_words.specs.declared.script_line.ScriptEvent.TheVariants.{Joined, Came}
-use Rattle.mc_words.specs.Lines.{lines_of}
+use Rattle.mc_text.specs.Lines.{lines_of}
 use Rattle.mc_words.specs.Script.{is_next, numbered, hex_of, bytes_event}
 use Rattle.mc_words.specs.Script.{join_event, ticks_event, one_word, two_words, three_words}
 use Rattle.mc_words.specs.Script.{words_event, some_event, line_event, after_event}

@@ -9,7 +9,7 @@ use Rattle.mc_model.specs.Game.{AreSettings}
 use Rattle.mc_words.specs.declared.arguments.WorldOptions.{WorldOptions}
 use Rattle.mc_words.specs.declared.arguments.Command.{Command}
 use Rattle.mc_words.specs.declared.arguments.Command.TheVariants.{Replay}
-use Rattle.mc_words.specs.Digits.{digits_number, within}
+use Rattle.mc_text.specs.Digits.{digits_number, within}
 use Rattle.mc_words.specs.Arguments.{IsSet, value_in, number_in, number_or, players_in}
 use Rattle.mc_words.specs.Arguments.{view_in, land_in, mobs_in, world_with, world_in, port_in}
 use Rattle.mc_words.specs.Arguments.{tick_limit_in, event_limit_in, status_with}

@@ -14,9 +14,9 @@ use Rattle.mc_model.specs.Run.{owed_in}
 use Rattle.mc_model.specs.World.{World}
 use Rattle.mc_events.specs.Served.{ServerValue}
 use Rattle.mc_events.specs.Stands.{Stands}
-use Rattle.mc_words.specs.Passes.{Passes, Breaks}
-use Rattle.mc_words.proofs.Passing.{passes_none, passes_next, passes_two, passes_all, breaks_next}
-use Rattle.mc_words.proofs.Passing.{breaks_early, breaks_two}
+use Rattle.mc_text.specs.Passes.{Passes, Breaks}
+use Rattle.mc_text.proofs.Passing.{passes_none, passes_next, passes_two, passes_all, breaks_next}
+use Rattle.mc_text.proofs.Passing.{breaks_early, breaks_two}
 use Rattle.mc_top.specs.ReplayText.{lines_after, settled}
 use Rattle.mc_top.specs.Replaying.{taken, taken_of, sent_by, sent_in, all_taken, all_sent}
 use Rattle.mc_top.specs.Replaying.{all_forgotten, all_shut, TakesFront, each, each_line}

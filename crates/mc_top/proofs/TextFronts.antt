@@ -6,7 +6,7 @@ use Rattle.std.proofs.Common.{arith}
 use Rattle.std.specs.List.{onto_first}
 use Rattle.std.proofs.lemmas.List.{length-append}
 use Rattle.std.proofs.lemmas.Bool.Decides.{nat_tests}
-use Rattle.mc_words.specs.Lines.{lines_of, is_line_end, text_max, goes_past, size_of}
+use Rattle.mc_text.specs.Lines.{lines_of, is_line_end, text_max, goes_past, size_of}
 
 -- ---- the lines of a text and those of its first bytes
 

@@ -23,10 +23,11 @@ use Rattle.mc_words.specs.declared.bad_input.InputFault.TheVariants as faults
 use Rattle.mc_words.specs.declared.ended.Ended.{Ended}
 use Rattle.mc_words.specs.declared.ended.Ended.TheVariants as ended
 use Rattle.mc_words.specs.declared.refusal.Refusal.TheVariants as refusals
-use Rattle.mc_words.specs.Devices.{Devices, IsTextRead, LinkDevice, Streams, WroteLast, streams_of}
+use Rattle.mc_text.specs.Lines.{IsTextRead}
+use Rattle.mc_words.specs.Devices.{Devices, LinkDevice, Streams, WroteLast, streams_of}
 use Rattle.mc_words.specs.Ended.{bad_input_line, budget_line, net_fault_line, read_fault_line}
 use Rattle.mc_words.specs.Ended.{refused_line}
-use Rattle.mc_words.specs.Passes.{SendsPart}
+use Rattle.mc_text.specs.Passes.{SendsPart}
 
 -- ---- its input
 
@@ -38,7 +39,7 @@ kind_of kinds.Order = faults.Order
 kind_of kinds.Long = faults.Long
 
 abbrev pub bad_of : ScriptFault → BadInput
-bad_of fault = record { line = fault.line; kind = kind_of fault.kind }
+bad_of fault = record { at = fault.line; kind = kind_of fault.kind }
 
 abbrev pub fault_in : Result ScriptValue ScriptFault → Option BadInput
 fault_in (Ok script) = None

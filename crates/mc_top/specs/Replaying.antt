@@ -15,7 +15,7 @@ use Rattle.mc_events.specs.Asking.{is_done_in}
 use Rattle.mc_server.specs.Minded.{ServedValue, StandsFor}
 use Rattle.mc_words.specs.declared.script_line.ScriptEvent.{ScriptEvent}
 use Rattle.mc_words.specs.declared.script_line.ScriptEvent.TheVariants.{Ticks}
-use Rattle.mc_words.specs.Passes.{Passes}
+use Rattle.mc_text.specs.Passes.{Passes}
 use Rattle.mc_top.specs.ReplayText.{settled, replay_text}
 
 -- ---- one connection after an event

@@ -18,7 +18,8 @@ use Rattle.mc_words.specs.declared.arguments.ServeOptions.{ServeOptions}
 use Rattle.mc_words.specs.declared.ended.Ended.{Ended}
 use Rattle.mc_words.specs.declared.ended.Ended.TheVariants as ended
 use Rattle.mc_words.specs.Devices.{Devices, WroteLast}
-use Rattle.mc_words.specs.Ended.{budget_line, ended_line, net_fault_line}
+use Rattle.mc_text.specs.Lines.{ended_line}
+use Rattle.mc_words.specs.Ended.{budget_line, net_fault_line}
 use Rattle.mc_top.specs.ReplayPromise.{start_of}
 
 abbrev pub budget_of : ServeOptions → Budget

@@ -5,7 +5,8 @@ ghost use Rattle.mc_top.specs.BotReading.{HasNoScript};
 
 use mc_bot::{BotFault, Script, ScriptFault, ScriptKind, ScriptRead, play};
 use mc_wire::{InputError, Link, Sink, Source};
-use mc_words::{BadInput, BotOptions, Ended, InputFault, Refusal, read_text};
+use mc_text::read_text;
+use mc_words::{BadInput, BotOptions, Ended, InputFault, Refusal};
 use std::alloc::Global;
 
 /// What is wrong with a line of a bot's script, as a fault of an input.
@@ -26,7 +27,7 @@ fn bad_of(fault: ScriptFault) -> BadInput
     ensures { result ≡ bad_of fault }
 {
     BadInput {
-        line: u64::from(fault.line),
+        at: u64::from(fault.line),
         kind: kind_of(fault.kind),
     }
 }

@@ -13,7 +13,8 @@ use crate::serve::serve;
 use mc_entities::Mind;
 use mc_status::write_status;
 use mc_wire::{InputError, Link, Lobby, Sink, Source};
-use mc_words::{Command, Ended, finish, read_text};
+use mc_text::read_text;
+use mc_words::{Command, Ended, finish};
 use std::alloc::Global;
 
 /// The command `status`: it reads one client's bytes as lines of hex, and writes each frame that

@@ -3,7 +3,7 @@ ghost use Rattle.mc_wire.specs.Count.{Rose};
 ghost use Rattle.mc_model.specs.Minds.{Plans};
 ghost use Rattle.mc_words.specs.declared.bad_input.BadInput.{BadInput};
 ghost use Rattle.mc_words.specs.declared.bad_input.InputFault.TheVariants.{Long};
-ghost use Rattle.mc_words.specs.Lines.{HoldsByte, text_max};
+ghost use Rattle.mc_text.specs.Lines.{HoldsByte, text_max};
 ghost use Rattle.mc_words.specs.declared.script_line.ScriptEvent.{ScriptEvent};
 ghost use Rattle.mc_words.specs.Script.{script_of};
 ghost use Rattle.mc_top.specs.Replaying.{ticks_of};
@@ -16,7 +16,7 @@ ghost use Rattle.mc_top.specs.Promises.{EndsFine, HasFault, IsFineInput, Promise
 
 /// The line of a script that is too long is the one that holds the first byte too many.
 pub fn long_line_of_a_script()
-    ensures { (text : List ℕ) (n : ℕ) → script_of text ≡ Err (record { line = n; kind = Long }) →
+    ensures { (text : List ℕ) (n : ℕ) → script_of text ≡ Err (record { at = n; kind = Long }) →
         HoldsByte text n (text_max + 1) }
 {}
 

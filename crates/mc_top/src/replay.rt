@@ -19,9 +19,8 @@ use crate::world::new_server;
 use mc_entities::Mind;
 use mc_server::{Input, Server, Serving};
 use mc_wire::{InputError, Sink, Source};
-use mc_words::{
-    BadInput, Ended, Script, ScriptError, ScriptEvent, Unfinished, WorldOptions, read_text,
-};
+use mc_text::{Unfinished, read_text};
+use mc_words::{BadInput, Ended, Script, ScriptError, ScriptEvent, WorldOptions};
 use std::alloc::Global;
 
 /// Plays one event, and writes its lines as they come. `lines` is room for those that wait.

@@ -6,14 +6,14 @@ ghost use Rattle.mc_model.specs.Run.{owed_in};
 ghost use Rattle.mc_model.specs.World.{World};
 ghost use Rattle.mc_events.specs.Served.{age_of};
 ghost use Rattle.mc_events.specs.Stands.{Stands};
-ghost use Rattle.mc_words.specs.Passes.{Breaks, Passes};
+ghost use Rattle.mc_text.specs.Passes.{Breaks, Passes};
 ghost use Rattle.mc_top.specs.ReplayText.{settled, lines_after};
 ghost use Rattle.mc_top.specs.Replaying.{TakesFront, taken, sent_in, forgotten, shut_in, all_taken};
 ghost use Rattle.mc_top.specs.Replaying.{all_sent, all_forgotten, all_shut};
 
 use mc_events::Server;
 use mc_wire::Sink;
-use mc_words::{HEX_PIECE, Unfinished, put, put_hex, write_out};
+use mc_text::{HEX_PIECE, Unfinished, put, put_hex, write_out};
 use std::alloc::Global;
 
 /// Takes the first bytes that a connection is owed and puts them as hex, and says whether there

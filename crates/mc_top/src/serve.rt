@@ -11,7 +11,8 @@ use mc_bytes::NoMemory;
 use mc_entities::Mind;
 use mc_server::{Budget, DriveFault, Tally, drive};
 use mc_wire::{Lobby, Sink, write_all};
-use mc_words::{Ended, ServeOptions, Unfinished};
+use mc_text::Unfinished;
+use mc_words::{Ended, ServeOptions};
 use std::alloc::Global;
 
 /// How long a lobby is served, and on which port it is to listen.

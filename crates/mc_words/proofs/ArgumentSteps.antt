@@ -2,13 +2,12 @@
 use Rattle.std.proofs.Common.{◌≡◌, ℕ, ◌+◌, ◌<◌, ◌≤◌, Bool, true, false, List, [], ◌∷◌, length}
 use Rattle.std.proofs.Common.{get_or, take, drop, Option, Some, None, refl, sym, ap, ◌∙◌, arith}
 use Rattle.std.proofs.Common.{add-one, drop-cons}
-use Rattle.std.specs.Prelude.{map, position, is_some, option_map, codes}
+use Rattle.std.specs.Prelude.{map, position, is_some, option_map}
 use Rattle.std.specs.List.{position_or_len, list_any}
 use Rattle.std.specs.Str.{bytes_eq}
 use Rattle.std.proofs.lemmas.List.{drop_all, take_all}
 use Rattle.std.proofs.lemmas.Bool.Decides.{nat_tests}
-use Rattle.mc_words.specs.Arguments.{is_equals, name_of, value_of, value_in, are_options, status_of}
-use Rattle.mc_words.specs.Arguments.{replay_of, serve_of, bot_of, command_of}
+use Rattle.mc_words.specs.Arguments.{is_equals, name_of, value_of, value_in, are_options}
 
 -- ---- a name and a value
 
@@ -128,50 +127,3 @@ pub some_seen : {X : Type 0} (bytes : X → List ℕ) (found : Option X) →
     is_some (option_map bytes found) ≡ is_some found
 some_seen bytes None = refl
 some_seen bytes (Some x) = refl
-
--- ---- commands
-
-pub no_command : command_of [] ≡ None
-unfolding command_of
-no_command = refl
-
-pub named_status : (verb : List ℕ) (arguments : List (List ℕ)) →
-    bytes_eq verb (codes "status") ≡ true → command_of (verb ∷ arguments) ≡ status_of arguments
-unfolding command_of
-named_status verb arguments is = rw is refl
-
-pub named_replay : (verb : List ℕ) (arguments : List (List ℕ)) →
-    bytes_eq verb (codes "status") ≡ false → bytes_eq verb (codes "replay") ≡ true →
-    command_of (verb ∷ arguments) ≡ replay_of arguments
-unfolding command_of
-named_replay verb arguments other is = rw (other, is) refl
-
-pub named_serve : (verb : List ℕ) (arguments : List (List ℕ)) →
-    bytes_eq verb (codes "status") ≡ false → bytes_eq verb (codes "replay") ≡ false →
-    bytes_eq verb (codes "serve") ≡ true → command_of (verb ∷ arguments) ≡ serve_of arguments
-unfolding command_of
-named_serve verb arguments first second is = rw (first, second, is) refl
-
-pub named_bot : (verb : List ℕ) (arguments : List (List ℕ)) →
-    bytes_eq verb (codes "status") ≡ false → bytes_eq verb (codes "replay") ≡ false →
-    bytes_eq verb (codes "serve") ≡ false → bytes_eq verb (codes "bot") ≡ true →
-    command_of (verb ∷ arguments) ≡ bot_of arguments
-unfolding command_of
-named_bot verb arguments first second third is = rw (first, second, third, is) refl
-
-pub named_none : (verb : List ℕ) (arguments : List (List ℕ)) →
-    bytes_eq verb (codes "status") ≡ false → bytes_eq verb (codes "replay") ≡ false →
-    bytes_eq verb (codes "serve") ≡ false → bytes_eq verb (codes "bot") ≡ false →
-    command_of (verb ∷ arguments) ≡ None
-unfolding command_of
-named_none verb arguments first second third fourth = rw (first, second, third, fourth) refl
-
--- what a comparison with the verb's text answered is what one with its bytes gives
-pub compared : (text verb word : List ℕ) (answer b : Bool) → text ≡ verb →
-    answer ≡ bytes_eq text word → answer ≡ b → bytes_eq verb word ≡ b
-compared text verb word answer b same is was =
-    ap (λ (t : List ℕ). bytes_eq t word) (sym same) ∙ sym is ∙ was
-
-pub empty_is : {X : Type 0} (xs : List X) → length xs ≡ 0 → xs ≡ []
-empty_is [] none = refl
-empty_is (x ∷ xs) none = absurd (omega (arith, none))

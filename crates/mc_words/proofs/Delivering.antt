@@ -9,16 +9,17 @@ use Rattle.mc_wire.specs.Stream.{Grows, IsAtEnd}
 use Rattle.mc_words.specs.declared.bad_input.BadInput.{BadInput}
 use Rattle.mc_words.specs.declared.ended.Ended.{Ended}
 use Rattle.mc_words.specs.declared.ended.Ended.TheVariants as ended
-use Rattle.mc_words.specs.declared.unfinished.Unfinished.{Unfinished}
-use Rattle.mc_words.specs.declared.unfinished.Unfinished.TheVariants.{Failed, NoMemory}
+use Rattle.mc_text.specs.declared.unfinished.Unfinished.{Unfinished}
+use Rattle.mc_text.specs.declared.unfinished.Unfinished.TheVariants.{Failed, NoMemory}
 use Rattle.mc_words.specs.Delivers.{Delivered, Delivers, Part}
-use Rattle.mc_words.specs.Devices.{ReadsText, Streams, WroteLast, WroteTextThenLast, streams}
+use Rattle.mc_text.specs.Lines.{ReadsText}
+use Rattle.mc_words.specs.Devices.{Streams, WroteLast, WroteTextThenLast, streams}
 use Rattle.mc_words.specs.Ended.{bad_input_line, ended_told, status_of}
 use Rattle.mc_words.specs.Finishing.{Finishes}
-use Rattle.mc_words.specs.Lines.{text_max}
-use Rattle.mc_words.specs.Passes.{SendsPart}
+use Rattle.mc_text.specs.Lines.{text_max}
+use Rattle.mc_text.specs.Passes.{SendsPart}
 use Rattle.mc_words.specs.Told.{IsToldOf, Tells, Told}
-use Rattle.mc_words.proofs.Growing.{grows_none, grows_two}
+use Rattle.mc_text.proofs.Growing.{grows_none, grows_two}
 
 -- what is told of a text follows from its first bytes up to one past the most, and has a fault
 -- where it has so many

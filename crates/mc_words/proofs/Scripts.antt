@@ -18,12 +18,13 @@ use Rattle.mc_words.specs.declared.script_line.Unread.{Unread}
 use Rattle.mc_words.specs.declared.script_line.Unread.TheVariants as unread
 use Rattle.mc_words.specs.declared.script_line.ScriptEvent.{ScriptEvent}
 use Rattle.mc_words.specs.declared.script_line.ScriptEvent.TheVariants.{Came}
-use Rattle.mc_words.specs.Lines.{lines_of, is_skipped, goes_past, PutsLine}
-use Rattle.mc_words.specs.Script.{is_space, words_of, some_event, words_event, hex_of, bytes_event}
+use Rattle.mc_text.specs.Lines.{lines_of, is_skipped, goes_past, PutsLine}
+use Rattle.mc_text.specs.Words.{is_space, words_of}
+use Rattle.mc_words.specs.Script.{some_event, words_event, hex_of, bytes_event}
 use Rattle.mc_words.specs.Script.{line_event, with_events, then_, at_first, lines_events, script_of}
 use Rattle.mc_words.specs.ScriptRead.{IsRead, PutsEvent, after_line}
-use Rattle.mc_words.proofs.Cuts.{is_hex, not_hex}
-use Rattle.mc_words.proofs.Reading.{left_lines, left_size, CutsNext}
+use Rattle.mc_text.proofs.Cuts.{is_hex, not_hex}
+use Rattle.mc_text.proofs.Reading.{left_lines, left_size, CutsNext}
 
 -- ---- hex
 
@@ -72,14 +73,6 @@ fourth_word now P before line verb left word left' digits (Some rest) first seco
     (omega (arith, length-slice_split is_space (now rest))))
 
 -- ---- lines
-
--- what is not UTF-8 does not pass the test of it
-pub not_text : (line : List ℕ) → ¬ IsUtf8 line → false ≡ is_utf8 line
-not_text line fails = step (is_utf8 line) refl
-  where
-    step : (b : Bool) → is_utf8 line ≡ b → false ≡ b
-    step true is = absurd (fails (IsUtf8-from_is_utf8 line is))
-    step false is = refl
 
 -- a line that is not UTF-8
 pub line_no_text : (len size : ℕ) (before : Before) (line : List ℕ) (past skipped text : Bool) →
@@ -171,7 +164,7 @@ pub script_fault : (text left line : List ℕ) (count size : ℕ)
     (before : Before) (after : Option (List ℕ)) (kind : InputFault) (events : List ScriptEvent) →
     HasScript text count size before (Some left) events → CutsNext left line after →
     line_event (length text) (size + (length line + 1)) before line ≡ Err kind →
-    script_of text ≡ Err (record { line = count + 1; kind = kind })
+    script_of text ≡ Err (record { at = count + 1; kind = kind })
 script_fault text left line count size before after kind events h cut is =
     h.so_far ∙ ap (with_events events) (lines_next (length text) count size before line
     (left_lines after) (lines_of left) cut.lines

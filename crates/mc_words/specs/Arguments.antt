@@ -1,7 +1,7 @@
 -- The arguments of the command line: a command, and then its options, each NAME=VALUE and each at
 -- most once, in any order. Rules of this project.
-use Rattle.std.specs.Prelude.{ℕ, ◌^◌, ◌-◌, ◌≤◌, ◌==◌, ◌&&◌, not, Bool, true, List, [], ◌∷◌, take}
-use Rattle.std.specs.Prelude.{drop, map, string_bytes, Option, Some, None, is_some, option_map}
+use Rattle.std.specs.Prelude.{ℕ, ◌^◌, ◌-◌, ◌≤◌, ◌==◌, ◌&&◌, not, Bool, true, false, List, [], ◌∷◌}
+use Rattle.std.specs.Prelude.{take, drop, map, string_bytes, Option, Some, None, is_some, option_map}
 use Rattle.std.specs.Prelude.{codes, if◌then◌else◌}
 use Rattle.std.specs.List.{before_first, after_first, list_any}
 use Rattle.std.specs.Str.{bytes_eq}
@@ -14,9 +14,11 @@ use Rattle.mc_model.specs.Game.{AreSettings}
 use Rattle.mc_words.specs.declared.arguments.WorldOptions.{WorldOptions}
 use Rattle.mc_words.specs.declared.arguments.ServeOptions.{ServeOptions}
 use Rattle.mc_words.specs.declared.arguments.BotOptions.{BotOptions}
+use Rattle.mc_words.specs.declared.arguments.LoadOptions.{LoadOptions}
 use Rattle.mc_words.specs.declared.arguments.Command.{Command}
 use Rattle.mc_words.specs.declared.arguments.Command.TheVariants.{Status, Replay, Serve, Bot}
-use Rattle.mc_words.specs.Digits.{digits_number, within}
+use Rattle.mc_words.specs.declared.arguments.Command.TheVariants.{View, Show, Load}
+use Rattle.mc_text.specs.Digits.{digits_number, within}
 
 -- ---- options
 
@@ -122,17 +124,35 @@ pace_or default (Some value) = pace_of value
 unfoldable pub pace_in : List (List ℕ) → Option Pace
 pace_in arguments = pace_or Clock (value_in (codes "pace") arguments)
 
--- no capture is written yet, so `no` is the one value
-abbrev pub is_no : Option (List ℕ) → Bool
-is_no None = true
-is_no (Some value) = bytes_eq value (codes "no")
+-- `yes` or `no`
+abbrev pub answer_of : List ℕ → Option Bool
+answer_of value =
+    if bytes_eq value (codes "yes") then Some true
+    else if bytes_eq value (codes "no") then Some false
+    else None
 
-unfoldable pub takes_no_capture : List (List ℕ) → Bool
-takes_no_capture arguments = is_no (value_in (codes "capture") arguments)
+abbrev pub answer_or : Bool → Option (List ℕ) → Option Bool
+answer_or default None = Some default
+answer_or default (Some value) = answer_of value
+
+-- whether a capture of all that happens is written
+unfoldable pub capture_in : List (List ℕ) → Option Bool
+capture_in arguments = answer_or false (value_in (codes "capture") arguments)
 
 -- after how many quiet reads in turn a bot waits no longer
 unfoldable pub patience_in : List (List ℕ) → Option ℕ
 patience_in arguments = number_or 20000000 1 1000000000 (value_in (codes "patience") arguments)
+
+-- the client of a capture
+unfoldable pub client_in : List (List ℕ) → Option ℕ
+client_in arguments = number_in 0 4294967295 (value_in (codes "client") arguments)
+
+-- how many clients and ticks a load has
+unfoldable pub clients_in : List (List ℕ) → Option ℕ
+clients_in arguments = number_in 1 50 (value_in (codes "n") arguments)
+
+unfoldable pub short_tick_limit_in : List (List ℕ) → Option ℕ
+short_tick_limit_in arguments = number_in 1 10000 (value_in (codes "ticks") arguments)
 
 -- ---- commands
 
@@ -153,15 +173,17 @@ replay_of arguments =
     else None
 
 abbrev pub serve_with : Option WorldOptions → Option ℕ → Option ℕ → Option ℕ → Option Pace →
-    Option Command
-serve_with (Some world) (Some port) (Some ticks) (Some events) (Some pace) = Some (Serve (record {
-  world = world;
-  port = port;
-  ticks = ticks;
-  events = events;
-  pace = pace;
-}))
-serve_with world port ticks events pace = None
+    Option Bool → Option Command
+serve_with (Some world) (Some port) (Some ticks) (Some events) (Some pace) (Some capture) =
+    Some (Serve (record {
+      world = world;
+      port = port;
+      ticks = ticks;
+      events = events;
+      pace = pace;
+      capture = capture;
+    }))
+serve_with world port ticks events pace capture = None
 
 abbrev pub serve_names : List (List ℕ)
 serve_names = codes "port" ∷ codes "ticks" ∷ codes "players" ∷ codes "view" ∷ codes "land"
@@ -169,9 +191,9 @@ serve_names = codes "port" ∷ codes "ticks" ∷ codes "players" ∷ codes "view
 
 abbrev pub serve_of : List (List ℕ) → Option Command
 serve_of arguments =
-    if are_options serve_names arguments && takes_no_capture arguments
+    if are_options serve_names arguments
     then serve_with (world_in arguments) (port_in arguments) (tick_limit_in arguments)
-    (event_limit_in arguments) (pace_in arguments)
+    (event_limit_in arguments) (pace_in arguments) (capture_in arguments)
     else None
 
 abbrev pub bot_with : Option ℕ → Option ℕ → Option Command
@@ -184,15 +206,42 @@ bot_of arguments =
     then bot_with (port_in arguments) (patience_in arguments)
     else None
 
--- what the arguments say, or none where they are not in the grammar
-unfoldable pub command_of : List (List ℕ) → Option Command
-command_of [] = None
-command_of (verb ∷ arguments) =
-    if bytes_eq verb (codes "status") then status_of arguments
-    else if bytes_eq verb (codes "replay") then replay_of arguments
-    else if bytes_eq verb (codes "serve") then serve_of arguments
-    else if bytes_eq verb (codes "bot") then bot_of arguments
+abbrev pub view_of : List (List ℕ) → Option Command
+view_of [] = Some View
+view_of (argument ∷ arguments) = None
+
+abbrev pub show_of : List (List ℕ) → Option Command
+show_of arguments =
+    if are_options (codes "client" ∷ []) arguments
+    then option_map Show (client_in arguments)
     else None
+
+abbrev pub load_with : Option ℕ → Option ℕ → Option Command
+load_with (Some clients) (Some ticks) = Some (Load (record { clients = clients; ticks = ticks }))
+load_with clients ticks = None
+
+abbrev pub load_of : List (List ℕ) → Option Command
+load_of arguments =
+    if are_options (codes "n" ∷ codes "ticks" ∷ []) arguments
+    then load_with (clients_in arguments) (short_tick_limit_in arguments)
+    else None
+
+-- a command by its name
+unfoldable pub named : List ℕ → List (List ℕ) → Option Command
+named name arguments =
+    if bytes_eq name (codes "status") then status_of arguments
+    else if bytes_eq name (codes "replay") then replay_of arguments
+    else if bytes_eq name (codes "serve") then serve_of arguments
+    else if bytes_eq name (codes "bot") then bot_of arguments
+    else if bytes_eq name (codes "view") then view_of arguments
+    else if bytes_eq name (codes "show") then show_of arguments
+    else if bytes_eq name (codes "load") then load_of arguments
+    else None
+
+-- what the arguments say, or none where they are not in the grammar
+abbrev pub command_of : List (List ℕ) → Option Command
+command_of [] = None
+command_of (name ∷ arguments) = named name arguments
 
 -- the bytes of each argument
 abbrev pub bytes_of : {Z : Type 0} → List (String Z) → List (List ℕ)
@@ -205,9 +254,17 @@ pub record CanServe (options : ServeOptions) : Type 0 where
   pub ticks : (1 ≤ options.ticks) × (options.ticks ≤ 1000000000)
   pub events : 1 ≤ options.events
 
+-- there are so many clients and ticks
+pub record CanLoad (options : LoadOptions) : Type 0 where
+  pub clients : (1 ≤ options.clients) × (options.clients ≤ 50)
+  pub ticks : (1 ≤ options.ticks) × (options.ticks ≤ 10000)
+
 -- a command can begin with its options
 abbrev pub IsSet : Command → Type 0
 IsSet (Status most) = AreSettings most 2
 IsSet (Replay options) = AreSettings options.players options.view
 IsSet (Serve options) = CanServe options
 IsSet (Bot options) = Unit {0}
+IsSet View = Unit {0}
+IsSet (Show client) = Unit {0}
+IsSet (Load options) = CanLoad options

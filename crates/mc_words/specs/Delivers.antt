@@ -7,9 +7,10 @@ use Rattle.mc_wire.specs.Stream.{Grows, IsAtEnd}
 use Rattle.mc_words.specs.declared.bad_input.BadInput.{BadInput}
 use Rattle.mc_words.specs.declared.ended.Ended.{Ended}
 use Rattle.mc_words.specs.declared.ended.Ended.TheVariants as ended
-use Rattle.mc_words.specs.Devices.{IsTextRead, Streams, WroteTextThenLast}
+use Rattle.mc_text.specs.Lines.{IsTextRead}
+use Rattle.mc_words.specs.Devices.{Streams, WroteTextThenLast}
 use Rattle.mc_words.specs.Ended.{bad_input_line, read_fault_line}
-use Rattle.mc_words.specs.Passes.{SendsPart}
+use Rattle.mc_text.specs.Passes.{SendsPart}
 use Rattle.mc_words.specs.Told.{IsToldOf, Told}
 
 -- the input was read to its end, nothing is wrong with it, and its text was written

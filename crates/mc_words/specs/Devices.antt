@@ -1,13 +1,12 @@
 -- The devices of a run, as its promises see them: before it, and after it. Rules of this project.
-use Rattle.std.specs.Prelude.{◌≡◌, ℕ, ◌+◌, ◌≤◌, ◌⊎◌, List, ◌++◌, take, length, Option}
+use Rattle.std.specs.Prelude.{◌≡◌, ℕ, ◌⊎◌, List, ◌++◌, take, Option}
 use Rattle.mc_wire.specs.Count.{Rose}
 use Rattle.mc_wire.specs.LinkCounts.{LinkCounts}
 use Rattle.mc_wire.specs.LinkStage.{LinkStage}
 use Rattle.mc_wire.specs.LinkTold.{LinkTold}
 use Rattle.mc_wire.specs.LobbyCounts.{LobbyCounts}
 use Rattle.mc_wire.specs.LobbyTold.{LobbyTold}
-use Rattle.mc_wire.specs.Stream.{Consumes, Grows, IsAtEnd}
-use Rattle.mc_words.specs.Lines.{text_max}
+use Rattle.mc_wire.specs.Stream.{Grows}
 
 -- a link to a server: what it tells, where it does, where it stands, and how many of its calls
 -- failed and were quiet
@@ -76,17 +75,6 @@ LinkStays before after = after.link ≡ before.link
 abbrev pub InputStays : Devices → Devices → Type 0
 InputStays before after =
     (after.left ≡ before.left) × (after.read_faults ≡ before.read_faults)
-
--- these bytes of an input were read, which are all of it or one more than a text has at most; no
--- more are read
-pub record ReadsText (left left' : Option (List ℕ)) (bytes : List ℕ) : Type 0 where
-  pub given : Consumes left left' bytes
-  pub within : length bytes ≤ text_max + 1
-  pub enough : IsAtEnd left' ⊎ (length bytes ≡ text_max + 1)
-
--- a text was read to its end, or to one byte past the most that a text has
-abbrev pub IsTextRead : Option (List ℕ) → Option (List ℕ) → Type 0
-IsTextRead left left' = (bytes : List ℕ) × ReadsText left left' bytes
 
 -- a last line, with its end, was written, or some first part of it where the sink failed
 abbrev pub WroteLast : Option (List ℕ) → Option (List ℕ) → ℕ → ℕ → List ℕ → Type 0

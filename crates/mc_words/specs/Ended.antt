@@ -1,12 +1,13 @@
 -- The statuses of the program, and the last line that each has. Rules of this project.
-use Rattle.std.specs.Prelude.{ℕ, List, [], ◌∷◌, ◌++◌, Option, Some, None, Result, Ok, Err, codes}
+use Rattle.std.specs.Prelude.{ℕ, List, [], ◌++◌, Option, Some, None, Result, Ok, Err, codes}
 use Rattle.std.specs.Prelude.{decimal}
 use Rattle.mc_words.specs.declared.bad_input.BadInput.{BadInput}
 use Rattle.mc_words.specs.declared.ended.Ended.{Ended}
 use Rattle.mc_words.specs.declared.ended.Ended.TheVariants as ended
 use Rattle.mc_words.specs.declared.ended.TheConstants.{USAGE}
-use Rattle.mc_words.specs.declared.unfinished.Unfinished.{Unfinished}
-use Rattle.mc_words.specs.declared.unfinished.Unfinished.TheVariants.{Failed, NoMemory}
+use Rattle.mc_text.specs.declared.unfinished.Unfinished.{Unfinished}
+use Rattle.mc_text.specs.declared.unfinished.Unfinished.TheVariants.{Failed, NoMemory}
+use Rattle.mc_text.specs.Lines.{ended_line}
 use Rattle.mc_words.specs.FaultName.{fault_name}
 use Rattle.mc_words.specs.declared.refusal.Refusal.{Refusal}
 use Rattle.mc_words.specs.RefusalText.{refusal_text}
@@ -29,10 +30,6 @@ status_of (ended.BadInput bad) = 6
 status_of (ended.Budget n) = 7
 status_of (ended.Refused why) = 8
 
--- a line and its end
-abbrev pub ended_line : List ℕ → List ℕ
-ended_line line = line ++ 10 ∷ []
-
 -- the last lines, with their ends
 abbrev pub usage_line : List ℕ
 usage_line = USAGE.now
@@ -47,10 +44,10 @@ net_fault_line = ended_line (codes "net fault")
 abbrev pub budget_line : ℕ → List ℕ
 budget_line n = ended_line (codes "budget " ++ decimal n)
 
--- where the first fault of a text shows, and what it is
+-- where the first fault of an input shows, and what it is
 abbrev pub bad_input_line : BadInput → List ℕ
 bad_input_line bad =
-    ended_line (codes "bad input at " ++ decimal bad.line ++ codes ": " ++ fault_name bad.kind)
+    ended_line (codes "bad input at " ++ decimal bad.at ++ codes ": " ++ fault_name bad.kind)
 
 -- why a bot was refused
 abbrev pub refused_line : Refusal → List ℕ

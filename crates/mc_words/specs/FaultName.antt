@@ -1,8 +1,10 @@
--- The names of the faults of a text, as they are printed.
+-- The names of the faults of an input, as they are printed.
 use Rattle.std.specs.Prelude.{ℕ, List, codes}
 use Rattle.mc_words.specs.declared.bad_input.InputFault.{InputFault}
 use Rattle.mc_words.specs.declared.bad_input.InputFault.TheVariants.{Hex, Frame, Packet, Login, Cut}
 use Rattle.mc_words.specs.declared.bad_input.InputFault.TheVariants.{Long, Word, Number, Order}
+use Rattle.mc_words.specs.declared.bad_input.InputFault.TheVariants.{BadHead, BadKind, Short}
+use Rattle.mc_words.specs.declared.bad_input.InputFault.TheVariants.{TooLong}
 
 abbrev pub fault_name : InputFault → List ℕ
 fault_name Hex = codes "Hex"
@@ -14,3 +16,7 @@ fault_name Long = codes "Long"
 fault_name Word = codes "Word"
 fault_name Number = codes "Number"
 fault_name Order = codes "Order"
+fault_name BadHead = codes "BadHead"
+fault_name BadKind = codes "BadKind"
+fault_name Short = codes "Short"
+fault_name TooLong = codes "TooLong"

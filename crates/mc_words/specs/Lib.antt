@@ -1,4 +1,3 @@
-pub mod Lines
 pub mod FaultName
 pub mod RefusalText
 pub mod Ended
@@ -7,7 +6,5 @@ pub mod Arguments
 pub mod Devices
 pub mod Delivers
 pub mod Finishing
-pub mod Digits
 pub mod Script
 pub mod ScriptRead
-pub mod Passes

@@ -3,7 +3,6 @@
 use Rattle.std.specs.Prelude.{ℕ, ◌+◌, ◌-◌, ◌==◌, nat_lt, nat_le, Bool, true, false, List, [], ◌∷◌}
 use Rattle.std.specs.Prelude.{◌++◌, length, Option, Some, None, Result, Ok, Err, codes}
 use Rattle.std.specs.Prelude.{if◌then◌else◌}
-use Rattle.std.specs.List.{slice_split}
 use Rattle.std.specs.Result.{result_ok}
 use Rattle.std.specs.Str.{bytes_eq, is_utf8}
 use Rattle.hex.specs.Hex.{decode_of}
@@ -13,26 +12,10 @@ use Rattle.mc_words.specs.declared.bad_input.InputFault.TheVariants as faults
 use Rattle.mc_words.specs.declared.script_line.Before.{Before}
 use Rattle.mc_words.specs.declared.script_line.ScriptEvent.{ScriptEvent}
 use Rattle.mc_words.specs.declared.script_line.ScriptEvent.TheVariants.{Joined, Came, Gone, Ticks}
-use Rattle.mc_words.specs.Digits.{digits_number, within}
-use Rattle.mc_words.specs.Lines.{lines_of, is_skipped, goes_past}
+use Rattle.mc_text.specs.Lines.{lines_of, is_skipped, goes_past}
+use Rattle.mc_text.specs.Words.{number_of, words_of}
 
--- ---- words
-
--- the words of a line are parted by one space each
-abbrev pub is_space : ℕ → Bool
-is_space b = b == 32
-
-abbrev pub words_of : List ℕ → List (List ℕ)
-words_of line = slice_split is_space line
-
--- whether zeros stand before a number
-abbrev pub has_zeros : List ℕ → Bool
-has_zeros (b ∷ c ∷ digits) = b == 48
-has_zeros other = false
-
--- a number in a range, without zeros before it; every range ends below eleven digits
-unfoldable pub number_of : ℕ → ℕ → List ℕ → Option ℕ
-number_of low high word = if has_zeros word then None else within low high (digits_number 10 word)
+-- ---- hex
 
 -- some bytes as hex, at least one
 unfoldable pub hex_of : List ℕ → Option (List ℕ)
@@ -126,7 +109,7 @@ abbrev pub then_ : ℕ → Before → Result (Option ScriptEvent) InputFault →
     (Before → Result (List ScriptEvent) BadInput) → Result (List ScriptEvent) BadInput
 then_ n before (Ok None) later = later before
 then_ n before (Ok (Some event)) later = with_events (event ∷ []) (later (after_event before event))
-then_ n before (Err kind) later = Err (record { line = n; kind = kind })
+then_ n before (Err kind) later = Err (record { at = n; kind = kind })
 
 -- the events of the lines behind the first `count`, which have `size` bytes with their ends, of a
 -- text of `len` bytes

@@ -9,21 +9,14 @@ use Rattle.mc_words.specs.declared.script_line.Before.{Before}
 use Rattle.mc_words.specs.declared.script.Script.{Script}
 use Rattle.mc_words.specs.declared.script.ScriptError.{ScriptError}
 use Rattle.mc_words.specs.declared.script.ScriptError.TheVariants as script_error
-use Rattle.mc_words.specs.Script.{words_of, after_event}
+use Rattle.mc_text.specs.Words.{words_of}
+use Rattle.mc_words.specs.Script.{after_event}
 
 -- what is read is what is there, or its fault, unless memory ran out
 abbrev pub IsRead : {A : Type 0} → Result A InputFault → Result A Unread → Type 0
 IsRead there (Ok x) = there ≡ Ok x
 IsRead there (Err (unread.Fault kind)) = there ≡ Err kind
 IsRead there (Err unread.NoMemory) = Unit {0}
-
--- a word is the first of a line, and this follows the space behind it
-abbrev pub CutsWord : List ℕ → List ℕ → List ℕ → Type 0
-CutsWord line word rest = words_of line ≡ word ∷ words_of rest
-
--- a word is all of a line
-abbrev pub IsLastWord : List ℕ → List ℕ → Type 0
-IsLastWord line word = words_of line ≡ word ∷ []
 
 -- the event that was read is put behind the others
 abbrev pub PutsEvent : Option ScriptEvent → List ScriptEvent → List ScriptEvent → Type 0

@@ -4,9 +4,9 @@ use Rattle.std.specs.Prelude.{◌≡◌, ℕ, List, Option, IfSome, Result, Ok, 
 use Rattle.mc_wire.specs.Count.{Rose, StandsOrRises}
 use Rattle.mc_wire.specs.Stream.{Grows}
 use Rattle.mc_words.specs.declared.bad_input.BadInput.{BadInput}
-use Rattle.mc_words.specs.Passes.{SendsPart}
-use Rattle.mc_words.specs.declared.unfinished.Unfinished.{Unfinished}
-use Rattle.mc_words.specs.declared.unfinished.Unfinished.TheVariants.{Failed, NoMemory}
+use Rattle.mc_text.specs.Passes.{SendsPart}
+use Rattle.mc_text.specs.declared.unfinished.Unfinished.{Unfinished}
+use Rattle.mc_text.specs.declared.unfinished.Unfinished.TheVariants.{Failed, NoMemory}
 
 -- the text that is written before a last line, and the first fault of the input, which the last
 -- line names

@@ -5,12 +5,14 @@ ghost use Rattle.mc_words.specs.Arguments.{is_equals, name_of, value_of, value_i
 ghost use Rattle.mc_words.specs.Arguments.{number_in, number_or, terrain_of, players_in, view_in};
 ghost use Rattle.mc_words.specs.Arguments.{land_in, mobs_in, world_in, port_in, tick_limit_in};
 ghost use Rattle.mc_words.specs.Arguments.{event_limit_in};
-ghost use Rattle.mc_words.specs.Arguments.{pace_of, pace_in, takes_no_capture, patience_in};
-ghost use Rattle.mc_words.specs.Arguments.{status_of, replay_of, serve_of, bot_of, command_of};
+ghost use Rattle.mc_words.specs.Arguments.{pace_of, pace_in, answer_of, capture_in, patience_in};
+ghost use Rattle.mc_words.specs.Arguments.{client_in, clients_in, short_tick_limit_in};
+ghost use Rattle.mc_words.specs.Arguments.{status_of, replay_of, serve_of, bot_of, view_of, show_of};
+ghost use Rattle.mc_words.specs.Arguments.{load_of, named, command_of};
 ghost use Rattle.mc_words.specs.Arguments.{bytes_of};
 
-use crate::digits::{ranged_u32, seed};
 use mc_land::Terrain;
+use mc_text::{long_number, ranged_u32};
 use mc_wire::Pace;
 
 /// The options of a world, as it begins.
@@ -39,6 +41,8 @@ pub struct ServeOptions {
     pub events: u32,
     /// What ticks come by.
     pub pace: Pace,
+    /// Whether a capture of all that happens is written.
+    pub capture: bool,
 }
 
 /// The options of `bot`.
@@ -48,6 +52,15 @@ pub struct BotOptions {
     pub port: u16,
     /// After so many quiet reads in turn it waits no longer.
     pub patience: u32,
+}
+
+/// The options of `load`.
+#[derive(Clone, Copy, Debug, PartialEq, Eq)]
+pub struct LoadOptions {
+    /// How many clients there are.
+    pub clients: u32,
+    /// How many ticks come.
+    pub ticks: u32,
 }
 
 /// What the arguments of the command line say.
@@ -61,6 +74,12 @@ pub enum Command {
     Serve(ServeOptions),
     /// `bot`, with its options.
     Bot(BotOptions),
+    /// `view`.
+    View,
+    /// `show`, with the number of the client that is shown.
+    Show(u32),
+    /// `load`, with its options.
+    Load(LoadOptions),
 }
 
 /// The place of the first `=`.
@@ -151,7 +170,7 @@ fn terrain_of(value: &[u8]) -> Option<Terrain>
         return Some(Terrain::Isle);
     }
     let digits = value.strip_prefix(b"hills:".as_slice())?;
-    Some(Terrain::Hills(seed(digits)?))
+    Some(Terrain::Hills(long_number(digits)?))
 }
 
 /// The most players.
@@ -255,14 +274,27 @@ fn pace(arguments: &[String]) -> Option<Pace>
     }
 }
 
-/// Whether no capture is asked for.
-#[tactic(auto, unfolding(crate::specs::Arguments::takes_no_capture))]
-fn takes_no_capture(arguments: &[String]) -> bool
-    ensures { result ≡ takes_no_capture (bytes_of arguments.now) }
+/// What a value of yes or no says.
+fn answer_of(value: &[u8]) -> Option<bool>
+    ensures { result ≡ answer_of value.now }
+{
+    if value == b"yes".as_slice() {
+        return Some(true);
+    }
+    if value == b"no".as_slice() {
+        return Some(false);
+    }
+    None
+}
+
+/// Whether a capture is asked for.
+#[tactic(auto, unfolding(crate::specs::Arguments::capture_in))]
+fn capture(arguments: &[String]) -> Option<bool>
+    ensures { result ≡ capture_in (bytes_of arguments.now) }
 {
     match value_in(b"capture".as_slice(), arguments) {
-        None => true,
-        Some(value) => value == b"no".as_slice(),
+        None => Some(false),
+        Some(value) => answer_of(value),
     }
 }
 
@@ -277,6 +309,30 @@ fn patience(arguments: &[String]) -> Option<u32>
         1_000_000_000,
         value_in(b"patience".as_slice(), arguments),
     )
+}
+
+/// The client of a capture.
+#[tactic(auto, unfolding(crate::specs::Arguments::client_in))]
+fn client(arguments: &[String]) -> Option<u32>
+    ensures { result ≡ client_in (bytes_of arguments.now) }
+{
+    number_in(0, u32::MAX, value_in(b"client".as_slice(), arguments))
+}
+
+/// How many clients a load has.
+#[tactic(auto, unfolding(crate::specs::Arguments::clients_in))]
+fn clients(arguments: &[String]) -> Option<u32>
+    ensures { result ≡ clients_in (bytes_of arguments.now) }
+{
+    number_in(1, 50, value_in(b"n".as_slice(), arguments))
+}
+
+/// How many ticks a load has.
+#[tactic(auto, unfolding(crate::specs::Arguments::short_tick_limit_in))]
+fn short_tick_limit(arguments: &[String]) -> Option<u32>
+    ensures { result ≡ short_tick_limit_in (bytes_of arguments.now) }
+{
+    number_in(1, 10_000, value_in(b"ticks".as_slice(), arguments))
 }
 
 /// `status`, with its options.
@@ -308,7 +364,7 @@ const SERVE_NAMES: [&str; 9] = [
 fn serve(arguments: &[String]) -> Option<Command>
     ensures { result ≡ serve_of (bytes_of arguments.now) }
 {
-    if !are_options(&SERVE_NAMES, arguments) || !takes_no_capture(arguments) {
+    if !are_options(&SERVE_NAMES, arguments) {
         return None;
     }
     Some(Command::Serve(ServeOptions {
@@ -317,6 +373,7 @@ fn serve(arguments: &[String]) -> Option<Command>
         ticks: tick_limit(arguments)?,
         events: event_limit(arguments)?,
         pace: pace(arguments)?,
+        capture: capture(arguments)?,
     }))
 }
 
@@ -333,25 +390,75 @@ fn bot(arguments: &[String]) -> Option<Command>
     }))
 }
 
+/// `view`, which has no options.
+fn view_capture(arguments: &[String]) -> Option<Command>
+    ensures { result ≡ view_of (bytes_of arguments.now) }
+{
+    if !arguments.is_empty() {
+        return None;
+    }
+    Some(Command::View)
+}
+
+/// `show`, with its option.
+fn show(arguments: &[String]) -> Option<Command>
+    ensures { result ≡ show_of (bytes_of arguments.now) }
+{
+    if !are_options(&["client"], arguments) {
+        return None;
+    }
+    Some(Command::Show(client(arguments)?))
+}
+
+/// `load`, with its options.
+fn load(arguments: &[String]) -> Option<Command>
+    ensures { result ≡ load_of (bytes_of arguments.now) }
+{
+    if !are_options(&["n", "ticks"], arguments) {
+        return None;
+    }
+    Some(Command::Load(LoadOptions {
+        clients: clients(arguments)?,
+        ticks: short_tick_limit(arguments)?,
+    }))
+}
+
+/// The command of a name, with its options.
+#[tactic(auto, unfolding(crate::specs::Arguments::named))]
+fn named(name: &[u8], options: &[String]) -> Option<Command>
+    ensures { result ≡ named name.now (bytes_of options.now) }
+{
+    if name == b"status".as_slice() {
+        return status(options);
+    }
+    if name == b"replay".as_slice() {
+        return replay(options);
+    }
+    if name == b"serve".as_slice() {
+        return serve(options);
+    }
+    if name == b"bot".as_slice() {
+        return bot(options);
+    }
+    if name == b"view".as_slice() {
+        return view_capture(options);
+    }
+    if name == b"show".as_slice() {
+        return show(options);
+    }
+    if name == b"load".as_slice() {
+        return load(options);
+    }
+    None
+}
+
 impl Command {
     /// What the arguments after the program's name say, or none where they name no command with
     /// its options.
     pub fn read(arguments: &[String]) -> Option<Command>
         ensures { result ≡ command_of (bytes_of arguments.now) }
     {
-        let (verb, options) = arguments.split_first()?;
-        if verb.as_str() == "status" {
-            return status(options);
-        }
-        if verb.as_str() == "replay" {
-            return replay(options);
-        }
-        if verb.as_str() == "serve" {
-            return serve(options);
-        }
-        if verb.as_str() == "bot" {
-            return bot(options);
-        }
-        None
+        let (name, options) = arguments.split_first()?;
+        named(name.as_bytes(), options)
     }
 }

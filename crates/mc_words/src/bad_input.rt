@@ -5,7 +5,7 @@ use mc_bytes::NoMemory;
 use std::alloc::Global;
 use std::fmt;
 
-/// What is wrong with a text that a command reads. It is printed as its name.
+/// What is wrong with what a command reads. It is printed as its name.
 #[derive(Clone, Copy, Debug, PartialEq, Eq)]
 pub enum InputFault {
     /// The line is no hex.
@@ -26,6 +26,14 @@ pub enum InputFault {
     Number,
     /// A connection joins whose number is not above all earlier ones.
     Order,
+    /// The bytes do not begin as a capture does.
+    BadHead,
+    /// A record of a capture is of no kind that there is.
+    BadKind,
+    /// A capture ends inside a record.
+    Short,
+    /// A record of a capture says that it carries more bytes than it may.
+    TooLong,
 }
 
 impl fmt::Display for InputFault {
@@ -45,15 +53,20 @@ impl fmt::Display for InputFault {
             InputFault::Word => "Word",
             InputFault::Number => "Number",
             InputFault::Order => "Order",
+            InputFault::BadHead => "BadHead",
+            InputFault::BadKind => "BadKind",
+            InputFault::Short => "Short",
+            InputFault::TooLong => "TooLong",
         })
     }
 }
 
-/// The first fault of a text: the line where it shows, counted from 1, and what is wrong there.
+/// The first fault of an input: where it shows, and what is wrong there.
 #[derive(Clone, Copy, Debug, PartialEq, Eq)]
 pub struct BadInput {
-    /// The number of the line.
-    pub line: u64,
+    /// The number of the line of a text, counted from 1, or how many bytes of a capture stand before
+    /// it, at most 2^64 - 1.
+    pub at: u64,
     /// What is wrong.
     pub kind: InputFault,
 }
@@ -63,8 +76,7 @@ impl BadInput {
     pub fn last_line(self, alloc: Global) -> Result<String, NoMemory>
         ensures { IfOk result (λ text. string_bytes text ≡ bad_input_line self) }
     {
-        let line = self.line;
-        let kind = self.kind;
-        Ok(format!(in alloc; "bad input at {line}: {kind}\n")?)
+        let BadInput { at, kind } = self;
+        Ok(format!(in alloc; "bad input at {at}: {kind}\n")?)
     }
 }

@@ -3,8 +3,8 @@ ghost use Rattle.mc_words.specs.Ended.{status_of, fixed_line_of, ended_told, bud
 
 use crate::bad_input::BadInput;
 use crate::refusal::Refusal;
-use crate::unfinished::Unfinished;
 use mc_bytes::NoMemory;
+use mc_text::Unfinished;
 use std::alloc::Global;
 
 /// The line that says how the program is called, with its end.

@@ -3,9 +3,9 @@ ghost use Rattle.mc_words.specs.Script.{script_of};
 ghost use Rattle.mc_words.specs.ScriptRead.{PutsEvent, after_line, IsScript};
 
 use crate::bad_input::BadInput;
-use crate::lines::cut_line;
 use crate::script_line::{Before, ScriptEvent, Unread, line_event};
 use mc_bytes::NoMemory;
+use mc_text::cut_line;
 use std::alloc::Global;
 
 /// A script: events, in the order in which they happen.
@@ -71,7 +71,7 @@ impl Script {
             match line_event(alloc, text.len(), size, before, line) {
                 Ok(event) => before = put_event(&mut events, before, event)?,
                 Err(Unread::Fault(kind)) => {
-                    return Err(ScriptError::Bad(BadInput { line: count, kind }));
+                    return Err(ScriptError::Bad(BadInput { at: count, kind }));
                 }
                 Err(Unread::NoMemory) => return Err(ScriptError::NoMemory),
             }

@@ -1,13 +1,14 @@
 ghost use Rattle.std.specs.Prelude.{◌≡◌};
-ghost use Rattle.mc_words.specs.Script.{number_of, hex_of, is_next, join_event};
+ghost use Rattle.mc_text.specs.Words.{number_of};
+ghost use Rattle.mc_words.specs.Script.{hex_of, is_next, join_event};
 ghost use Rattle.mc_words.specs.Script.{ticks_event, bytes_event, one_word, two_words, three_words};
-ghost use Rattle.mc_words.specs.Script.{words_event, words_of, line_event, after_event};
+ghost use Rattle.mc_text.specs.Words.{words_of};
+ghost use Rattle.mc_words.specs.Script.{words_event, line_event, after_event};
 ghost use Rattle.mc_words.specs.ScriptRead.{IsRead};
 
 use crate::bad_input::InputFault;
-use crate::lines::{goes_past, is_skipped, put_hex};
-use crate::words::{cut_word, is_text, number};
 use mc_bytes::{NoMemory, Octets};
+use mc_text::{cut_word, goes_past, is_skipped, is_text, number, put_decoded};
 use std::alloc::Global;
 
 /// What a line of a script says.
@@ -117,7 +118,7 @@ fn came(alloc: Global, connection: u32, digits: &[u8]) -> Result<ScriptEvent, Un
         return Err(Unread::Fault(InputFault::Hex));
     }
     let mut bytes = Vec::new(alloc);
-    if !put_hex(digits, &mut bytes)? {
+    if !put_decoded(digits, &mut bytes)? {
         return Err(Unread::Fault(InputFault::Hex));
     }
     Ok(ScriptEvent::Came(connection, Octets::from_vec(bytes)))

@@ -1,5 +1,5 @@
 use Rattle.std.proofs.Common.{sym, ◌∙◌}
-use Rattle.mc_words.specs.ScriptRead.{IsLastWord}
+use Rattle.mc_text.specs.Words.{IsLastWord}
 use Rattle.mc_bot.proofs.Scripts.{sixth_word}
 use Rattle.mc_bot.proofs.line.last_said.Goals as goal
 

@@ -1,7 +1,7 @@
 use Rattle.std.proofs.Common.{rules}
 use Rattle.std.proofs.lemmas.Result.{err_from_is_err_and}
 use Rattle.mc_wire.proofs.Counts.{StandsOrRises-trans}
-use Rattle.mc_words.specs.Ended.{ended_line}
+use Rattle.mc_text.specs.Lines.{ended_line}
 use Rattle.mc_replica.proofs.Dumping.{line_breaks, next_line}
 use Rattle.mc_replica.proofs.dump.put_all.Goals as goal
 

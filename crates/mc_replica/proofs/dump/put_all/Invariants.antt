@@ -1,8 +1,8 @@
 use Rattle.std.proofs.Common.{drop}
 use Rattle.std.specs.List.{flat_map}
 use Rattle.mc_wire.specs.Count.{StandsOrRises}
-use Rattle.mc_words.specs.Ended.{ended_line}
-use Rattle.mc_words.specs.Passes.{Passes}
+use Rattle.mc_text.specs.Lines.{ended_line}
+use Rattle.mc_text.specs.Passes.{Passes}
 use Rattle.mc_replica.proofs.dump.put_all.Given as goal
 
 abbrev pub invariant-loop-item : goal.invariant-loop-item

@@ -1,7 +1,7 @@
 use Rattle.std.proofs.Common.{rules, ◌≡◌, true, false, sym, subst, ap, ◌∙◌}
 use Rattle.std.proofs.lemmas.Result.{err_from_is_err_and}
 use Rattle.mc_words.specs.declared.bad_input.InputFault.TheVariants as faults
-use Rattle.mc_words.specs.Passes.{SendsPart}
+use Rattle.mc_text.specs.Passes.{SendsPart}
 use Rattle.mc_status.specs.StatusText.{Exchange, receives_next, shown_fault}
 use Rattle.mc_status.specs.Playing.{Receives}
 use Rattle.mc_status.proofs.Texts.{next_begins, next_hex, next_long, next_not_hex, part_begins}

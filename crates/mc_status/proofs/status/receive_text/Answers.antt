@@ -1,7 +1,7 @@
 use Rattle.std.proofs.Common.{refl, inl}
 use Rattle.std.proofs.lemmas.Result.{err_from_is_err_and}
 use Rattle.mc_wire.proofs.Counts.{StandsOrRises-trans}
-use Rattle.mc_words.proofs.Reading.{cuts_next, none_left}
+use Rattle.mc_text.proofs.Reading.{cuts_next, none_left}
 use Rattle.mc_status.proofs.Texts.{no_fault_left, told_cut, told_done, told_fault, told_next}
 use Rattle.mc_status.proofs.Texts.{told_part, told_start}
 use Rattle.mc_status.proofs.status.receive_text.Goals as goal

@@ -1,6 +1,6 @@
 use Rattle.std.specs.Prelude.{option_map}
 use Rattle.mc_wire.specs.Count.{StandsOrRises}
-use Rattle.mc_words.proofs.Reading.{left_size}
+use Rattle.mc_text.proofs.Reading.{left_size}
 use Rattle.mc_status.proofs.Texts.{HasTold}
 use Rattle.mc_status.proofs.status.receive_text.Given as goal
 

@@ -1,7 +1,7 @@
 use Rattle.std.proofs.Common.{[], List, ℕ, subst}
 use Rattle.std.proofs.lemmas.Result.{err_from_is_err_and}
-use Rattle.mc_words.specs.Passes.{Passes}
-use Rattle.mc_words.proofs.Passing.{breaks_next, passes_all, passes_next}
+use Rattle.mc_text.specs.Passes.{Passes}
+use Rattle.mc_text.proofs.Passing.{breaks_next, passes_all, passes_next}
 use Rattle.mc_status.proofs.status.write_text.Goals as goal
 
 pub returns-in_err-write_out-clause-stopped : goal.returns-in_err-write_out-clause-stopped

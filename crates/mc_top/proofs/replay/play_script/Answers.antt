@@ -1,5 +1,5 @@
 use Rattle.std.proofs.lemmas.Result.{err_from_is_err_and, on_ok_weaker}
-use Rattle.mc_words.proofs.Growing.{grows_none}
+use Rattle.mc_text.proofs.Growing.{grows_none}
 use Rattle.mc_top.proofs.replay.play_script.Goals as goal
 
 pub returns-in_err-server-clause-stopped : goal.returns-in_err-server-clause-stopped

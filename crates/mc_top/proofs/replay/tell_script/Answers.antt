@@ -1,6 +1,6 @@
 use Rattle.std.proofs.Common.{Err, ap, sym, ◌∙◌}
 use Rattle.std.proofs.lemmas.Result.{err_from_is_err_and}
-use Rattle.mc_words.specs.declared.unfinished.Unfinished.{Unfinished}
+use Rattle.mc_text.specs.declared.unfinished.Unfinished.{Unfinished}
 use Rattle.mc_top.proofs.ScriptFacts.{script_ticks}
 use Rattle.mc_top.proofs.Replays.{tells_bad, tells_played, tells_stopped}
 use Rattle.mc_top.proofs.replay.tell_script.Goals as goal

@@ -1,7 +1,7 @@
 use Rattle.std.proofs.Common.{◌≡◌, List, ℕ, [], subst, ◌∙◌}
 use Rattle.std.specs.FinMap.{keys}
 use Rattle.std.proofs.lemmas.Result.{err_from_is_err_and}
-use Rattle.mc_words.specs.Passes.{Passes, Breaks}
+use Rattle.mc_text.specs.Passes.{Passes, Breaks}
 use Rattle.mc_top.specs.Replaying.{all_taken, all_sent}
 use Rattle.mc_top.proofs.Tellings.{lines_put, lines_break_sent, lines_break_shut, lines_break_out}
 use Rattle.mc_top.proofs.replay_lines.put_lines.Goals as goal

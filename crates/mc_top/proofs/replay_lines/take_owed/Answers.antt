@@ -1,7 +1,7 @@
 use Rattle.std.proofs.Common.{◌≡◌, true, false, refl, inl, rules, ◌∙◌}
 use Rattle.std.proofs.lemmas.Result.{err_from_is_err_and}
 use Rattle.mc_wire.proofs.Counts.{StandsOrRises-trans}
-use Rattle.mc_words.proofs.Passing.{breaks_here}
+use Rattle.mc_text.proofs.Passing.{breaks_here}
 use Rattle.mc_top.proofs.Tellings.{taking_start, taking_next, taking_done, taking_breaks}
 use Rattle.mc_top.proofs.replay_lines.take_owed.Goals as goal
 

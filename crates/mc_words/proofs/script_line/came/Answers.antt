@@ -11,12 +11,12 @@ returns-then-is_empty c =
 pub returns-then-not-branch : goal.returns-then-not-branch
 returns-then-not-branch c =
     let some : 0 < length c.args.digits.now = search rules in
-    came_not c.args.connection c.args.digits.now c.new-bytes.result.items c.put_hex.new.bytes.items
-    c.in_ok-put_hex.field-0 some c.if-not-branch.true c.in_ok-put_hex.ensures
+    came_not c.args.connection c.args.digits.now c.new-bytes.result.items c.put_decoded.new.bytes.items
+    c.in_ok-put_decoded.field-0 some c.if-not-branch.true c.in_ok-put_decoded.ensures
 
 pub returns : goal.returns
 returns c =
     let some : 0 < length c.args.digits.now = search rules in
     rw c.from_vec.ensures (came_is c.args.connection c.args.digits.now c.new-bytes.result.items
-    c.put_hex.new.bytes.items c.in_ok-put_hex.field-0 some c.new-bytes.ensures.items
-    c.if-not-branch.false c.in_ok-put_hex.ensures)
+    c.put_decoded.new.bytes.items c.in_ok-put_decoded.field-0 some c.new-bytes.ensures.items
+    c.if-not-branch.false c.in_ok-put_decoded.ensures)

@@ -1,6 +1,7 @@
 use Rattle.std.proofs.Common.{◌∙◌, ap}
 use Rattle.std.proofs.lemmas.Result.{err_from_is_err_and}
-use Rattle.mc_words.specs.Script.{words_of, words_event, some_event}
+use Rattle.mc_text.specs.Words.{words_of}
+use Rattle.mc_words.specs.Script.{words_event, some_event}
 use Rattle.mc_words.proofs.Scripts.{line_no_text, line_words, words_fail}
 use Rattle.mc_words.proofs.script_line.line_event.Goals as goal
 

@@ -1,5 +1,5 @@
 use Rattle.std.proofs.Common.{sym, ◌∙◌}
-use Rattle.mc_words.specs.ScriptRead.{IsLastWord}
+use Rattle.mc_text.specs.Words.{IsLastWord}
 use Rattle.mc_words.proofs.Scripts.{fourth_word}
 use Rattle.mc_words.proofs.script_line.words_event.Goals as goal
 

@@ -1,4 +1,4 @@
-use Rattle.mc_words.proofs.Reading.{cuts_next, none_left}
+use Rattle.mc_text.proofs.Reading.{cuts_next, none_left}
 use Rattle.mc_bot.proofs.Scripts.{lines_fail, lines_next, lines_done}
 use Rattle.mc_bot.proofs.begun.Begun.take_all.Goals as goal
 

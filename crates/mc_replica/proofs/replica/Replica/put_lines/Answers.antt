@@ -1,5 +1,5 @@
 use Rattle.std.proofs.lemmas.Result.{err_from_is_err_and}
-use Rattle.mc_words.proofs.Passing.{breaks_next, passes_next}
+use Rattle.mc_text.proofs.Passing.{breaks_next, passes_next}
 use Rattle.mc_replica.specs.Dump.{text_of, times_lines}
 use Rattle.mc_replica.proofs.Dumping.{breaks_last, dump_begins, passes_last}
 use Rattle.mc_replica.proofs.replica.Replica.put_lines.Goals as goal

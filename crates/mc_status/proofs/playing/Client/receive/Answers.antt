@@ -7,7 +7,7 @@ use Rattle.std.proofs.lemmas.Result.{err_from_is_err_and}
 use Rattle.mc_bytes.specs.Numbers.{IsBytes-after, IsBytes-take}
 use Rattle.mc_bytes.specs.Reading.{IsBytes}
 use Rattle.mc_wire.proofs.Counts.{StandsOrRises-trans}
-use Rattle.mc_words.specs.Passes.{SendsPart}
+use Rattle.mc_text.specs.Passes.{SendsPart}
 use Rattle.mc_status.specs.StatusText.{Exchange, receives}
 use Rattle.mc_status.specs.Playing.{Meets}
 use Rattle.mc_status.proofs.Received.{next_meets, next_stops, none_meets}

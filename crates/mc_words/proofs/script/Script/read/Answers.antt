@@ -1,4 +1,4 @@
-use Rattle.mc_words.proofs.Reading.{cuts_next, none_left}
+use Rattle.mc_text.proofs.Reading.{cuts_next, none_left}
 use Rattle.mc_words.proofs.Scripts.{script_start, script_next, script_fault, script_done}
 use Rattle.mc_words.proofs.script.Script.read.Goals as goal
 

@@ -1,5 +1,5 @@
 use Rattle.std.specs.Prelude.{option_map}
-use Rattle.mc_words.proofs.Reading.{left_size}
+use Rattle.mc_text.proofs.Reading.{left_size}
 use Rattle.mc_words.proofs.Scripts.{HasScript}
 use Rattle.mc_words.proofs.script.Script.read.Given as goal
 
