@@ -30,7 +30,7 @@ bytes_both : (e : Event) (events : List Event) → IsEvent e → AreBytes events
 bytes_both (came k bytes) events first later = (first, later)
 bytes_both other events first later = later
 
-bytes_append : (xs ys : List Event) → AreBytes xs → AreBytes ys → AreBytes (xs ++ ys)
+pub bytes_append : (xs ys : List Event) → AreBytes xs → AreBytes ys → AreBytes (xs ++ ys)
 bytes_append [] ys a b = b
 bytes_append (e ∷ xs) ys a b = grind (arith, nat_tests, bytes_append xs ys)
 
@@ -43,7 +43,7 @@ forgots_fit : (es : List (ℕ × Link)) → AreBytes (map (λ (e : ℕ × Link).
 forgots_fit [] = tt
 forgots_fit (e ∷ es) = forgots_fit es
 
-takings_fit : (w : World) → AreBytes (takings w)
+pub takings_fit : (w : World) → AreBytes (takings w)
 unfolding takings
 takings_fit w =
     let owing : List (ℕ × Link) = filter owes (entries w.links) in
@@ -61,10 +61,10 @@ log_fits w (e ∷ events) fit =
 
 -- ---- at the end nothing is owed
 
-abbrev OwesNone : World → Type 0
+abbrev pub OwesNone : World → Type 0
 OwesNone w = (k : ℕ) → owed_in k w ≡ []
 
-log_none : (w : World) (events : List Event) → OwesNone w →
+pub log_none : (w : World) (events : List Event) → OwesNone w →
     OwesNone (history w (settled_log w events))
 log_none w [] none = none
 log_none w (e ∷ events) none =
@@ -76,10 +76,10 @@ log_none w (e ∷ events) none =
 -- ---- nothing is lost
 
 -- one that goes is owed nothing to lose
-lost_none : (k : ℕ) (w : World) (e : Event) → owed_in k w ≡ [] → lost_at k w e ≡ []
+pub lost_none : (k : ℕ) (w : World) (e : Event) → owed_in k w ≡ [] → lost_at k w e ≡ []
 lost_none k w e none = grind (arith, nat_tests, none)
 
-lost_more : (k : ℕ) (w : World) (xs ys : List Event) →
+pub lost_more : (k : ℕ) (w : World) (xs ys : List Event) →
     lost k w (xs ++ ys) ≡ lost k w xs ++ lost k (history w xs) ys
 lost_more k w [] ys = refl
 lost_more k w (e ∷ xs) ys =
@@ -96,11 +96,11 @@ forgot_lost : (k : ℕ) (w : World) (es : List (ℕ × Link)) →
 forgot_lost k w [] = refl
 forgot_lost k w (e ∷ es) = forgot_lost k (step w (forgot e.0)).world es
 
-takings_lost : (k : ℕ) (w : World) → lost k w (takings w) ≡ []
+pub takings_lost : (k : ℕ) (w : World) → lost k w (takings w) ≡ []
 unfolding takings
 takings_lost k w = rw (lost_more, took_lost, forgot_lost) refl
 
-log_lost : (k : ℕ) (w : World) (events : List Event) → OwesNone w →
+pub log_lost : (k : ℕ) (w : World) (events : List Event) → OwesNone w →
     lost k w (settled_log w events) ≡ []
 log_lost k w [] none = refl
 log_lost k w (e ∷ events) none =

@@ -1,6 +1,6 @@
-mod Taken
-mod Takings
+pub mod Taken
+pub mod Takings
 mod Owed
-mod Played
+pub mod Played
 mod Counts
-mod Keeps
+pub mod Keeps

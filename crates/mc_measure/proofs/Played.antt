@@ -1,6 +1,6 @@
 -- Playing events one after another, and how many bytes are taken then.
-use Rattle.std.proofs.Common.{◌≡◌, ℕ, zero, suc, ◌+◌, List, [], ◌∷◌, ◌++◌, length, map, refl, sym, subst}
-use Rattle.std.proofs.Common.{ap, ◌∙◌, append_assoc, arith}
+use Rattle.std.proofs.Common.{◌≡◌, ℕ, zero, suc, ◌+◌, List, [], ◌∷◌, ◌++◌, length, map, refl, sym}
+use Rattle.std.proofs.Common.{subst, ap, ◌∙◌, append_assoc, arith}
 use Rattle.std.specs.List.{filter, flat_map, range_with_len}
 use Rattle.std.specs.FinMap.{entries}
 use Rattle.std.proofs.lemmas.List.{append-nil}
@@ -32,7 +32,7 @@ log_more w [] ys = refl
 log_more w (e ∷ xs) ys =
     grind (arith, append_assoc, log_more (settled (step w e).world) xs ys)
 
-world_more : (w : World) (xs ys : List Event) →
+pub world_more : (w : World) (xs ys : List Event) →
     settled_world w (xs ++ ys) ≡ settled_world (settled_world w xs) ys
 world_more w [] ys = refl
 world_more w (e ∷ xs) ys = world_more (settled (step w e).world) xs ys
@@ -79,21 +79,21 @@ played_none w served stands = record { bytes = tt; stands = stands; counted = re
 -- ---- one event
 
 -- taking and forgetting leave what mobs are still to do
-tooks_plans : (es : List (ℕ × Link)) (w : World) →
+pub tooks_plans : (es : List (ℕ × Link)) (w : World) →
     (history w (map (λ (e : ℕ × Link). took e.0 (length e.1.owed)) es)).plans ≡ w.plans
 tooks_plans [] w = refl
 tooks_plans (e ∷ es) w =
     let now = took e.0 (length e.1.owed) in
     tooks_plans es (step w now).world ∙ step_plans w now (λ tick. cc)
 
-forgots_plans : (es : List (ℕ × Link)) (w : World) →
+pub forgots_plans : (es : List (ℕ × Link)) (w : World) →
     (history w (map (λ (e : ℕ × Link). forgot e.0) es)).plans ≡ w.plans
 forgots_plans [] w = refl
 forgots_plans (e ∷ es) w =
     forgots_plans es (step w (forgot e.0)).world ∙ step_plans w (forgot e.0) (λ tick. cc)
 
 -- the server stands with its minds for the world that is settled
-stands_settled : (w : World) (server : ServerValue) (plans : Plans) →
+pub stands_settled : (w : World) (server : ServerValue) (plans : Plans) →
     Stands server (settled w) → w.plans ≡ plans →
     StandsFor (record { server = server; plans = plans }) (settled w)
 stands_settled w server plans stands are = record {
@@ -172,7 +172,8 @@ counting from (suc n) k is =
 pub next_number : (f : ℕ → List Event) (from n k : ℕ) → from + n ≡ k →
     flat_map f (range_with_len from (n + 1)) ≡ flat_map f (range_with_len from n) ++ f k
 next_number f from n k is =
-    (let one : n + 1 ≡ suc n = omega arith in ap (λ (m : ℕ). flat_map f (range_with_len from m)) one)
+    let one : n + 1 ≡ suc n = omega arith in
+    ap (λ (m : ℕ). flat_map f (range_with_len from m)) one
     ∙ ap (flat_map f) (counting from n k is)
     ∙ flat_map-append f (range_with_len from n) (k ∷ [])
     ∙ ap (λ (es : List Event). flat_map f (range_with_len from n) ++ es) (append-nil (f k))

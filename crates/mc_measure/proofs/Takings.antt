@@ -1,6 +1,7 @@
 -- What taking from all connections and forgetting those that are closed make of a world, one after
 -- another and as events, and how many bytes are taken so.
-use Rattle.std.proofs.Common.{◌≡◌, ◌≢◌, ℕ, ◌+◌, Bool, true, false, cond, List, [], ◌∷◌, ◌++◌, length}
+use Rattle.std.proofs.Common.{◌≡◌, ◌≢◌, ℕ, ◌+◌, Bool, true, false, cond, List, [], ◌∷◌, ◌++◌}
+use Rattle.std.proofs.Common.{length}
 use Rattle.std.proofs.Common.{take, map, refl, sym, subst, ap, ◌∙◌, arith}
 use Rattle.std.specs.Prelude.{nat_lt, Option, Some, None, is_some}
 use Rattle.std.specs.List.{AllByRecursion, filter}
@@ -67,11 +68,11 @@ still_at f v w k (e ∷ es) others none there = (
 
 -- ---- each takes all
 
-owed_is : (v : World) (e : ℕ × Link) → get v.links e.0 ≡ Some e.1 → owed_in e.0 v ≡ e.1.owed
+pub owed_is : (v : World) (e : ℕ × Link) → get v.links e.0 ≡ Some e.1 → owed_in e.0 v ≡ e.1.owed
 owed_is v e there = ap owed_of there
 
-taken_still : (v : World) (e : ℕ × Link) (es : List (ℕ × Link)) → is_of e.0 (numbers es) ≡ false →
-    AreAt as_is v es → AreAt as_is (taken e.0 v) es
+pub taken_still : (v : World) (e : ℕ × Link) (es : List (ℕ × Link)) →
+    is_of e.0 (numbers es) ≡ false → AreAt as_is v es → AreAt as_is (taken e.0 v) es
 taken_still v e es none there =
     still_at as_is v (taken e.0 v) e.0 es (taken_other v e.0) none there
 
@@ -83,7 +84,7 @@ all_others j (k ∷ ks) v none =
     grind (arith, nat_tests, none, all_others j ks (taken k v), taken_other v k)
 
 -- and each of them is emptied
-takes_all : (v : World) (es : List (ℕ × Link)) → AreOnce (numbers es) → AreAt as_is v es →
+pub takes_all : (v : World) (es : List (ℕ × Link)) → AreOnce (numbers es) → AreAt as_is v es →
     AreAt emptied (all_taken (numbers es) v) es
 takes_all v [] once there = tt
 takes_all v (e ∷ es) once there = (
@@ -92,7 +93,7 @@ takes_all v (e ∷ es) once there = (
 )
 
 -- what one takes, as events
-abbrev took_so : List (ℕ × Link) → List Event
+abbrev pub took_so : List (ℕ × Link) → List Event
 took_so es = map (λ (e : ℕ × Link). took e.0 (length e.1.owed)) es
 
 taken_first : (v : World) (k : ℕ) (l : Link) (es : List (ℕ × Link)) →
@@ -108,7 +109,7 @@ taken_first v k l es = by l.owed refl
         ∙ ap (λ (t : Bool). history v (took_so (cond t ((k, l) ∷ es) es))) (sym (some_owed b bytes))
 
 -- those that are owed anything take it
-history_took : (v : World) (es : List (ℕ × Link)) → AreOnce (numbers es) → AreAt as_is v es →
+pub history_took : (v : World) (es : List (ℕ × Link)) → AreOnce (numbers es) → AreAt as_is v es →
     all_taken (numbers es) v ≡ history v (took_so (filter owes es))
 history_took v [] once there = refl
 history_took v (e ∷ es) once there =
@@ -120,22 +121,22 @@ history_took v (e ∷ es) once there =
 -- ---- those that are closed are forgotten
 
 -- those that took all are done where they are closed
-done_is : (v : World) (e : ℕ × Link) → get v.links e.0 ≡ Some (emptied e.1) →
+pub done_is : (v : World) (e : ℕ × Link) → get v.links e.0 ≡ Some (emptied e.1) →
     is_done_in e.0 v ≡ is_shut e
 done_is v e there = ap is_over there ∙ and-true (is_closed e.1.stage)
 
-forgotten_is : (v : World) (e : ℕ × Link) → get v.links e.0 ≡ Some (emptied e.1) →
+pub forgotten_is : (v : World) (e : ℕ × Link) → get v.links e.0 ≡ Some (emptied e.1) →
     forgotten e.0 v ≡ cond (is_shut e) (step v (forgot e.0)).world v
 forgotten_is v e there =
     ap (λ (b : Bool). cond b (step v (forgot e.0)).world v) (done_is v e there)
 
-forgotten_still : (v : World) (e : ℕ × Link) (es : List (ℕ × Link)) →
+pub forgotten_still : (v : World) (e : ℕ × Link) (es : List (ℕ × Link)) →
     is_of e.0 (numbers es) ≡ false → AreAt emptied v es → AreAt emptied (forgotten e.0 v) es
 forgotten_still v e es none there =
     still_at emptied v (forgotten e.0 v) e.0 es (forgotten_other v e.0) none there
 
 -- as events, just those
-abbrev forgot_so : List (ℕ × Link) → List Event
+abbrev pub forgot_so : List (ℕ × Link) → List Event
 forgot_so es = map (λ (e : ℕ × Link). forgot e.0) es
 
 forgotten_first : (v : World) (e : ℕ × Link) (b : Bool) (es : List (ℕ × Link)) →
@@ -144,7 +145,7 @@ forgotten_first : (v : World) (e : ℕ × Link) (b : Bool) (es : List (ℕ × Li
 forgotten_first v e true es = refl
 forgotten_first v e false es = refl
 
-history_forgot : (v : World) (es : List (ℕ × Link)) → AreOnce (numbers es) →
+pub history_forgot : (v : World) (es : List (ℕ × Link)) → AreOnce (numbers es) →
     AreAt emptied v es →
     all_forgotten (numbers es) v ≡ history v (forgot_so (filter is_shut es))
 history_forgot v [] once there = refl
@@ -167,64 +168,63 @@ settled_is w = fold-append _ w (tooks w) (forgots w)
 
 -- ---- those that are owed bytes or closed
 
-abbrev pends : ℕ × Link → Bool
-pends e = is_pending e.1
+abbrev pub pending_entries : World → List (ℕ × Link)
+pending_entries w = filter (λ (e : ℕ × Link). is_pending e.1) (entries w.links)
 
 -- some of these are none but these
-still_none : (p : ℕ × Link → Bool) (k : ℕ) (es : List (ℕ × Link)) → is_of k (numbers es) ≡ false →
-    is_of k (numbers (filter p es)) ≡ false
-still_none p k [] none = refl
-still_none p k (e ∷ es) none = grind (arith, nat_tests, none, still_none p k es)
+none_among : (test : ℕ × Link → Bool) (k : ℕ) (es : List (ℕ × Link)) →
+    is_of k (numbers es) ≡ false → is_of k (numbers (filter test es)) ≡ false
+none_among test k [] none = none
+none_among test k (e ∷ es) none = grind (arith, nat_tests, none, none_among test k es)
 
-some_once : (p : ℕ × Link → Bool) (es : List (ℕ × Link)) → AreOnce (numbers es) →
-    AreOnce (numbers (filter p es))
-some_once p [] once = tt
-some_once p (e ∷ es) once =
-    elim (p e) as (λ b. AreOnce (numbers (cond b (e ∷ filter p es) (filter p es)))) [
-      | true ↦ (still_none p e.0 es once.0, some_once p es once.1)
-      | false ↦ some_once p es once.1
+once_among : (test : ℕ × Link → Bool) (es : List (ℕ × Link)) → AreOnce (numbers es) →
+    AreOnce (numbers (filter test es))
+once_among test [] once = tt
+once_among test (e ∷ es) once =
+    elim (test e) as (λ b. AreOnce (numbers (cond b (e ∷ filter test es) (filter test es)))) [
+      | true ↦ (none_among test e.0 es once.0, once_among test es once.1)
+      | false ↦ once_among test es once.1
     ]
 
-some_at : (p : ℕ × Link → Bool) (f : Link → Link) (w : World) (es : List (ℕ × Link)) →
-    AreAt f w es → AreAt f w (filter p es)
-some_at p f w [] there = tt
-some_at p f w (e ∷ es) there =
-    elim (p e) as (λ b. AreAt f w (cond b (e ∷ filter p es) (filter p es))) [
-      | true ↦ (there.0, some_at p f w es there.1)
-      | false ↦ some_at p f w es there.1
+all_among : (P : ℕ × Link → Type 0) (test : ℕ × Link → Bool) (es : List (ℕ × Link)) →
+    AllByRecursion P es → AllByRecursion P (filter test es)
+all_among P test [] all = tt
+all_among P test (e ∷ es) all =
+    elim (test e) as (λ b. AllByRecursion P (cond b (e ∷ filter test es) (filter test es))) [
+      | true ↦ (all.0, all_among P test es all.1)
+      | false ↦ all_among P test es all.1
     ]
 
 -- whoever is owed bytes or closed is among them
-owed_pend : (es : List (ℕ × Link)) → filter owes (filter pends es) ≡ filter owes es
-owed_pend [] = refl
-owed_pend (e ∷ es) = grind (arith, nat_tests, owed_pend es)
+pub owing_among : (es : List (ℕ × Link)) →
+    filter owes (filter (λ (e : ℕ × Link). is_pending e.1) es) ≡ filter owes es
+owing_among [] = refl
+owing_among (e ∷ es) = grind (arith, nat_tests, owing_among es)
 
-shut_pend : (es : List (ℕ × Link)) → filter is_shut (filter pends es) ≡ filter is_shut es
-shut_pend [] = refl
-shut_pend (e ∷ es) = grind (arith, nat_tests, shut_pend es)
+pub shut_among : (es : List (ℕ × Link)) →
+    filter is_shut (filter (λ (e : ℕ × Link). is_pending e.1) es) ≡ filter is_shut es
+shut_among [] = refl
+shut_among (e ∷ es) = grind (arith, nat_tests, shut_among es)
 
-abbrev pending : World → List (ℕ × Link)
-pending w = filter pends (entries w.links)
+pub pending_once : (w : World) → AreOnce (numbers (pending_entries w))
+pending_once w = once_among (λ (e : ℕ × Link). is_pending e.1) (entries w.links) (all_once w)
 
-pending_once : (w : World) → AreOnce (pending_in w)
-pending_once w = some_once pends (entries w.links) (all_once w)
-
-pending_there : (w : World) → AreAt as_is w (pending w)
-pending_there w = some_at pends as_is w (entries w.links) (all_there w)
+pub pending_there : (w : World) → AreAt as_is w (pending_entries w)
+pending_there w = all_among (λ (e : ℕ × Link). get w.links e.0 ≡ Some e.1)
+    (λ (e : ℕ × Link). is_pending e.1) (entries w.links) (all_there w)
 
 -- taking from them and then forgetting those that are closed
-pub pending_settled : (w : World) →
+pub all_settled : (w : World) →
     all_forgotten (pending_in w) (all_taken (pending_in w) w) ≡ settled w
-pending_settled w =
-    let es = pending w in
+all_settled w =
+    let es = pending_entries w in
     history_forgot (all_taken (numbers es) w) es (pending_once w)
     (takes_all w es (pending_once w) (pending_there w))
-    ∙ ap (λ (x : World). history x (forgot_so (filter is_shut es)))
-    (history_took w es (pending_once w) (pending_there w))
-    ∙ ap (λ (xs : List (ℕ × Link)). history (history w (took_so xs))
-    (forgot_so (filter is_shut es))) (owed_pend (entries w.links))
-    ∙ ap (λ (xs : List (ℕ × Link)). history (history w (tooks w)) (forgot_so xs))
-    (shut_pend (entries w.links))
+    ∙ ap (λ (fs : List (ℕ × Link)). history (all_taken (numbers es) w) (forgot_so fs))
+    (shut_among (entries w.links))
+    ∙ ap (λ (x : World). history x (forgots w))
+    (history_took w es (pending_once w) (pending_there w)
+    ∙ ap (λ (fs : List (ℕ × Link)). history w (took_so fs)) (owing_among (entries w.links)))
     ∙ sym (settled_is w)
 
 -- ---- how many bytes are taken
@@ -272,8 +272,8 @@ bytes_took v (e ∷ es) once there =
 pub pending_bytes : (w : World) → each_owed (pending_in w) w ≡ bytes_taken w (takings w)
 unfolding takings
 pending_bytes w =
-    bytes_took w (pending w) (pending_once w) (pending_there w)
-    ∙ ap (λ (xs : List (ℕ × Link)). bytes_taken w (took_so xs)) (owed_pend (entries w.links))
+    bytes_took w (pending_entries w) (pending_once w) (pending_there w)
+    ∙ ap (λ (xs : List (ℕ × Link)). bytes_taken w (took_so xs)) (owing_among (entries w.links))
     ∙ sym (omega (
       arith,
       bytes_more w (tooks w) (forgots w),
@@ -288,7 +288,7 @@ pub settled_by : (w : World) (server : ServerValue) (ks js : List ℕ) (count : 
 settled_by w server ks js count is also counted stands = (
   subst (Stands server) (ap (λ (js : List ℕ). all_forgotten js (all_taken ks w)) also
       ∙ ap (λ (ks : List ℕ). all_forgotten (pending_in w) (all_taken ks w)) is
-      ∙ pending_settled w) stands,
+      ∙ all_settled w) stands,
   counted ∙ ap (λ (ks : List ℕ). each_owed ks w) is ∙ pending_bytes w,
 )
 

@@ -65,8 +65,8 @@ load_text n ticks =
 
 -- ---- what holds of all that happens
 
--- The whole promise about a run holds of a load, and the bytes of each client are just those that it
--- was handed, unless it was closed as Backlog.
+-- The whole promise about a run holds of a load, and the bytes of each client are just those that
+-- it was handed, unless it was closed as Backlog.
 pub record KeepsAll (n ticks : ℕ) : Type 0 where
   pub promise : Headline (load_start n) (load_log n ticks)
   pub whole : (i : ℕ) → why i (before_load n) (load_log n ticks) ≢ Some Backlog →
