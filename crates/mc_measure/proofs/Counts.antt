@@ -22,7 +22,7 @@ use Rattle.mc_laws.proofs.Runs.Worlds.{new_good, run_good, step_good}
 use Rattle.mc_laws.proofs.Walk.Each.{each_last}
 use Rattle.mc_laws.proofs.Walk.Ticking.{at_tick_last}
 use Rattle.mc_load.specs.Load.{arrival, client_turn, load_events, load_round}
-use Rattle.mc_measure.specs.LoadText.{before_load, load_bytes, load_log, load_start}
+use Rattle.mc_measure.specs.LoadText.{before_load, client_bytes, load_bytes, load_log, load_start}
 use Rattle.mc_measure.specs.Plays.{bytes_taken, taken_at}
 use Rattle.mc_measure.specs.Settling.{is_shut, owes, settled, settled_log, takings}
 use Rattle.mc_measure.proofs.Takings.{AreAt, all_there, as_is, settled_is, tooks}
@@ -271,10 +271,13 @@ load_below : (n ticks : ℕ) → ComeBelow n (load_events n ticks)
 load_below n ticks = arrivals_below n 0 n (flat_map (load_round n) (range_with_len 1 ticks))
     (omega arith) (rounds_below n (range_with_len 1 ticks))
 
--- what is taken in a load is what its clients take
-pub load_counted : (n ticks : ℕ) →
+-- what is taken in a load is what its clients take, and so what they are handed where they take all
+pub load_counted : (n ticks : ℕ) → ((i : ℕ) →
+    taken i (before_load n) (load_log n ticks) ≡ client_bytes n ticks i) →
     bytes_taken (before_load n) (load_log n ticks) ≡ load_bytes n ticks
 unfolding load_bytes
-load_counted n ticks = all_counted n (before_load n) (load_log n ticks)
+load_counted n ticks whole = all_counted n (before_load n) (load_log n ticks)
     (log_below n (before_load n) (load_events n ticks) (new_good (load_start n))
     (λ k from. refl) (load_below n ticks))
+    ∙ sum_same (λ i. length (taken i (before_load n) (load_log n ticks)))
+    (λ i. length (client_bytes n ticks i)) (range_with_len 0 n) (λ i. ap length (whole i))

@@ -20,7 +20,9 @@ use Rattle.mc_play.specs.Census.{census_of}
 use Rattle.mc_load.specs.Load.{load_events}
 use Rattle.mc_measure.specs.LoadText.{KeepsAll, after_load, before_load, load_bytes, load_census}
 use Rattle.mc_measure.specs.LoadText.{load_log, load_outcome, load_size, load_start, load_text}
-use Rattle.mc_measure.specs.Settling.{is_shut, owes, settled, settled_log, takings}
+use Rattle.mc_measure.specs.Settling.{NeverFull, is_shut, owes, settled, settled_log}
+use Rattle.mc_measure.specs.Settling.{takings}
+use Rattle.mc_measure.proofs.Full.{never_why}
 use Rattle.mc_measure.proofs.Takings.{settled_none}
 
 -- ---- the bytes of a log
@@ -115,19 +117,21 @@ log_lost k w (e ∷ events) none =
 -- ---- all of it
 
 pub keeps_all : (n ticks : ℕ) → AreSettings n 2 → AreBytes (load_events n ticks) →
-    KeepsAll n ticks
-keeps_all n ticks are bytes =
+    NeverFull (before_load n) (load_log n ticks) → KeepsAll n ticks
+keeps_all n ticks are bytes never =
     let w : World = before_load n in
     let log : List Event = load_log n ticks in
     let promise = headline (load_start n) log are (log_fits w (load_events n ticks) bytes) in
     let begins : OwesNone w = λ j. ap owed_of (get-empty {X = Link} nat_cmp j) in
     record {
       promise = promise;
-      whole = λ i fine.
+      kept = λ i. never_why i w log never;
+      whole = λ i.
           let p = promise.promised log [] i (sym (append-nil log)) in
           let none = log_none w (load_events n ticks) begins i in
-          let kept = log_lost i w (load_events n ticks) begins in
-          sym (rw (kept, none, append-nil (taken i w log)) at (p.whole fine));
+          let lost = log_lost i w (load_events n ticks) begins in
+          sym (rw (lost, none, append-nil (taken i w log)) at
+          (p.whole (never_why i w log never)));
     }
 
 pub settings_are : (n : ℕ) → 1 ≤ n → n ≤ 50 → AreSettings n 2

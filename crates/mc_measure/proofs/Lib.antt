@@ -1,5 +1,6 @@
 pub mod Taken
 pub mod Takings
+pub mod Full
 mod Owed
 pub mod Played
 mod Counts

@@ -1,19 +1,24 @@
 -- Taking what connections are owed front by front, and forgetting them one by one.
-use Rattle.std.proofs.Common.{◌≡◌, ℕ, ◌+◌, ◌<◌, ◌≤◌, List, [], ◌∷◌, length, get_or, take, drop}
+use Rattle.std.proofs.Common.{◌≡◌, ◌≢◌, ℕ, ◌+◌, ◌<◌, ◌≤◌, List, [], ◌∷◌, length, get_or, take, drop}
 use Rattle.std.proofs.Common.{refl, sym, subst, ap, ◌∙◌, arith, Bool, true, false, cond}
 use Rattle.std.specs.Prelude.{◌↔◌, Option, Some, None, if◌then◌else◌}
+use Rattle.std.specs.List.{AllByRecursion}
 use Rattle.std.specs.FinMap.{get}
 use Rattle.std.proofs.lemmas.List.{drop_all, drop_more, length-drop, length-take, nil_from_length}
 use Rattle.mc_model.specs.Link.{Link, is_done}
-use Rattle.mc_model.specs.Run.{owed_in}
+use Rattle.mc_model.specs.declared.cause.Cause.TheVariants.{Backlog}
+use Rattle.mc_model.specs.Run.{cause_in, owed_in}
 use Rattle.mc_model.specs.Step.{forget, forgot, step, took}
 use Rattle.mc_model.specs.World.{World}
-use Rattle.mc_events.specs.Asking.{is_over}
+use Rattle.mc_events.specs.Asking.{is_over, pending_in}
 use Rattle.mc_events.specs.Served.{ServerValue}
 use Rattle.mc_events.specs.Stands.{Stands}
-use Rattle.mc_measure.specs.Plays.{each_owed}
+use Rattle.mc_measure.specs.Plays.{bytes_taken, each_owed}
+use Rattle.mc_measure.specs.Settling.{NoneFull, settled, takings}
 use Rattle.mc_measure.specs.Settling.{all_forgotten, all_taken, forgotten, taken, taken_of}
+use Rattle.mc_measure.proofs.Full.{none_full}
 use Rattle.mc_measure.proofs.Taken.{owed_after, taken_after}
+use Rattle.mc_measure.proofs.Takings.{all_settled, pending_bytes}
 
 -- ---- one connection, front by front
 
@@ -174,3 +179,20 @@ pub forgetting_done : (ks : List ℕ) (i : ℕ) (w : World) (server : ServerValu
 forgetting_done ks i w server past t =
     subst (Stands server) (sym (ap (λ (rest : List ℕ). all_forgotten rest t.v)
     (drop_all i ks past)) ∙ t.same) t.stands
+
+-- ---- all of it
+
+-- the server stands for the settled world, the bytes were counted, and no outbox was too small
+pub settled_by : (w : World) (before server : ServerValue) (is js ks : List ℕ) (count : ℕ) →
+    Stands before w → is ≡ pending_in w → js ≡ pending_in w → ks ≡ pending_in w →
+    AllByRecursion (λ (k : ℕ). cause_in k w ≢ Some Backlog) is → count ≡ each_owed js w →
+    Stands server (all_forgotten ks (all_taken js w)) →
+    Stands server (settled w) × (count ≡ bytes_taken w (takings w)) × NoneFull w
+settled_by w before server is js ks count now one two three none counted stands = (
+  subst (Stands server) (ap (λ (ks : List ℕ). all_forgotten ks (all_taken js w)) three
+      ∙ ap (λ (js : List ℕ). all_forgotten (pending_in w) (all_taken js w)) two
+      ∙ all_settled w) stands,
+  counted ∙ ap (λ (js : List ℕ). each_owed js w) two ∙ pending_bytes w,
+  none_full w now.reached
+      (subst (AllByRecursion (λ (k : ℕ). cause_in k w ≢ Some Backlog)) one none),
+)

@@ -21,7 +21,9 @@ use Rattle.mc_server.specs.Minded.{ServedValue, StandsFor}
 use Rattle.mc_server.proofs.Plans.{step_plans}
 use Rattle.mc_load.specs.Load.{arrival, arrival_bytes}
 use Rattle.mc_measure.specs.Plays.{HasPlayed, bytes_taken, taken_at}
+use Rattle.mc_measure.specs.Settling.{NeverFull, NoneFull}
 use Rattle.mc_measure.specs.Settling.{is_shut, owes, settled, settled_log, settled_world, takings}
+use Rattle.mc_measure.proofs.Full.{never_more, takings_never}
 use Rattle.mc_measure.proofs.Takings.{bytes_more, settled_is, tooks}
 
 -- ---- some events and then others
@@ -70,11 +72,16 @@ played_two xs ys w middle served a b first later =
       bytes = bytes_both xs ys first.bytes later.bytes;
       stands = subst (StandsFor served) (sym (world_more w xs ys)) later.stands;
       counted = omega (arith, one, two, played_bytes w xs ys);
+      clear = subst (NeverFull w) (sym (log_more w xs ys))
+          (never_more w (settled_log w xs) (settled_log (settled_world w xs) ys) first.clear
+          (subst (λ (v : World). NeverFull v (settled_log (settled_world w xs) ys)) (world_is w xs)
+          later.clear));
     }
 
 pub played_none : (w : World) (served : ServedValue) → StandsFor served w →
     HasPlayed [] w served 0
-played_none w served stands = record { bytes = tt; stands = stands; counted = refl }
+played_none w served stands =
+    record { bytes = tt; stands = stands; counted = refl; clear = tt }
 
 -- ---- one event
 
@@ -115,15 +122,17 @@ pub played_one : (input : Input) (w : World) (server : ServerValue) (plans : Pla
     AreBytes (event_of input ∷ []) → Stands server (settled (step w (event_of input)).world) →
     (step w (event_of input)).world.plans ≡ plans →
     count ≡ bytes_taken (step w (event_of input)).world
-    (takings (step w (event_of input)).world) →
+    (takings (step w (event_of input)).world) → NoneFull (step w (event_of input)).world →
     HasPlayed (event_of input ∷ []) w (record { server = server; plans = plans }) count
-played_one input w server plans count bytes stands are counted =
+played_one input w server plans count bytes stands are counted none =
     let v : World = (step w (event_of input)).world in
     record {
       bytes = bytes;
       stands = stands_settled v server plans stands are;
       counted = counted ∙ ap (bytes_taken v) (sym (append-nil (takings v)))
           ∙ omega (arith, input_none w input);
+      clear =
+          (none, subst (NeverFull v) (sym (append-nil (takings v))) (takings_never v none));
     }
 
 -- what came, under another name

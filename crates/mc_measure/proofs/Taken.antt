@@ -19,7 +19,7 @@ use Rattle.mc_measure.specs.Settling.{forgotten, taken, taken_of}
 abbrev pub emptied : Link → Link
 emptied l = record l { owed = [] }
 
-abbrev taking : ℕ → Link → Link
+abbrev pub taking : ℕ → Link → Link
 taking n l = record l { owed = drop n l.owed }
 
 -- the link of one connection is another
@@ -34,12 +34,12 @@ with_link_twice w k l m = rw (
   put_twice nat_cmp_total nat_cmp-IsAntisymmetric w.unread k (unread_of k w) (unread_of k w),
 ) refl
 
-took_is : (w : World) (k n : ℕ) (l : Link) → get w.links k ≡ Some l →
+pub took_is : (w : World) (k n : ℕ) (l : Link) → get w.links k ≡ Some l →
     (step w (took k n)).world ≡ with_link w k (taking n l)
 unfolding step
 took_is w k n l is = rw is refl
 
-took_none : (w : World) (k n : ℕ) → get w.links k ≡ None → (step w (took k n)).world ≡ w
+pub took_none : (w : World) (k n : ℕ) → get w.links k ≡ None → (step w (took k n)).world ≡ w
 unfolding step
 took_none w k n is = rw is refl
 

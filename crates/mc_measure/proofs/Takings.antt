@@ -2,7 +2,7 @@
 -- another and as events, and how many bytes are taken so.
 use Rattle.std.proofs.Common.{◌≡◌, ◌≢◌, ℕ, ◌+◌, Bool, true, false, cond, List, [], ◌∷◌, ◌++◌}
 use Rattle.std.proofs.Common.{length}
-use Rattle.std.proofs.Common.{take, map, refl, sym, subst, ap, ◌∙◌, arith}
+use Rattle.std.proofs.Common.{take, map, refl, sym, ap, ◌∙◌, arith}
 use Rattle.std.specs.Prelude.{nat_lt, Option, Some, None, is_some}
 use Rattle.std.specs.List.{AllByRecursion, filter}
 use Rattle.std.specs.Cmp.{nat_cmp_total}
@@ -20,8 +20,6 @@ use Rattle.mc_model.proofs.Maps.Sorted.{each_found}
 use Rattle.mc_model.proofs.Maps.Lookups.{untied_number}
 use Rattle.mc_links.specs.Kept.{is_pending}
 use Rattle.mc_events.specs.Asking.{is_over, is_done_in, pending_in}
-use Rattle.mc_events.specs.Served.{ServerValue}
-use Rattle.mc_events.specs.Stands.{Stands}
 use Rattle.mc_events.proofs.Loops.{AreOnce, is_of}
 use Rattle.mc_events.proofs.Numbers.{keys_once}
 use Rattle.mc_measure.specs.Plays.{bytes_taken, each_owed}
@@ -279,18 +277,6 @@ pending_bytes w =
       bytes_more w (tooks w) (forgots w),
       forgots_none (history w (tooks w)) (filter is_shut (entries w.links)),
     ))
-
--- the server stands for the settled world, and the bytes were counted
-pub settled_by : (w : World) (server : ServerValue) (ks js : List ℕ) (count : ℕ) →
-    ks ≡ pending_in w → js ≡ pending_in w → count ≡ each_owed ks w →
-    Stands server (all_forgotten js (all_taken ks w)) →
-    Stands server (settled w) × (count ≡ bytes_taken w (takings w))
-settled_by w server ks js count is also counted stands = (
-  subst (Stands server) (ap (λ (js : List ℕ). all_forgotten js (all_taken ks w)) also
-      ∙ ap (λ (ks : List ℕ). all_forgotten (pending_in w) (all_taken ks w)) is
-      ∙ all_settled w) stands,
-  counted ∙ ap (λ (ks : List ℕ). each_owed ks w) is ∙ pending_bytes w,
-)
 
 -- ---- what is left
 

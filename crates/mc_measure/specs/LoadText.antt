@@ -37,9 +37,9 @@ after_load n ticks = settled_world (before_load n) (load_events n ticks)
 
 -- ---- what it comes to
 
--- the bytes that one client took, and how many all clients took
+-- the bytes that one client was handed, and how many all clients were
 abbrev pub client_bytes : ℕ → ℕ → ℕ → List ℕ
-client_bytes n ticks i = taken i (before_load n) (load_log n ticks)
+client_bytes n ticks i = stream i (before_load n) (load_log n ticks)
 
 unfoldable pub load_bytes : ℕ → ℕ → ℕ
 load_bytes n ticks = sum_by (λ (i : ℕ). length (client_bytes n ticks i)) (range_with_len 0 n)
@@ -65,9 +65,9 @@ load_text n ticks =
 
 -- ---- what holds of all that happens
 
--- The whole promise about a run holds of a load, and the bytes of each client are just those that
--- it was handed, unless it was closed as Backlog.
+-- The whole promise about a run holds of a load, and each client took all that it was handed: none
+-- was closed since its outbox was too small.
 pub record KeepsAll (n ticks : ℕ) : Type 0 where
   pub promise : Headline (load_start n) (load_log n ticks)
-  pub whole : (i : ℕ) → why i (before_load n) (load_log n ticks) ≢ Some Backlog →
-      client_bytes n ticks i ≡ stream i (before_load n) (load_log n ticks)
+  pub kept : (i : ℕ) → why i (before_load n) (load_log n ticks) ≢ Some Backlog
+  pub whole : (i : ℕ) → taken i (before_load n) (load_log n ticks) ≡ client_bytes n ticks i

@@ -4,7 +4,7 @@ use Rattle.mc_model.specs.Run.{AreBytes, owed_in}
 use Rattle.mc_model.specs.Step.{Event, took, step}
 use Rattle.mc_model.specs.World.{World}
 use Rattle.mc_server.specs.Minded.{ServedValue, StandsFor}
-use Rattle.mc_measure.specs.Settling.{settled_log, settled_world, taken}
+use Rattle.mc_measure.specs.Settling.{NeverFull, settled_log, settled_world, taken}
 
 -- how many bytes are taken in an event, and in all of them, whoever takes them
 abbrev pub taken_at : World → Event → ℕ
@@ -24,10 +24,11 @@ abbrev pub each_owed : List ℕ → World → ℕ
 each_owed [] w = 0
 each_owed (k ∷ ks) w = length (owed_in k w) + each_owed ks (taken k w)
 
--- what came in events are bytes, the server stands with its minds for the world after them, and so
--- many bytes were taken
+-- what came in events are bytes, the server stands with its minds for the world after them, so many
+-- bytes were taken, and no outbox was too small
 pub record HasPlayed (events : List Event) (w : World) (served : ServedValue) (count : ℕ)
     : Type 0 where
   pub bytes : AreBytes events
   pub stands : StandsFor served (settled_world w events)
   pub counted : count ≡ bytes_taken w (settled_log w events)
+  pub clear : NeverFull w (settled_log w events)

@@ -1,12 +1,14 @@
 -- The log of events after each of which every connection takes all that it is owed, and those that
 -- are closed are forgotten; and the world after it. Rules of this project.
-use Rattle.std.specs.Prelude.{ℕ, nat_lt, Bool, List, [], ◌∷◌, ◌++◌, length, map, if◌then◌else◌}
+use Rattle.std.specs.Prelude.{◌≢◌, ℕ, nat_lt, Bool, List, [], ◌∷◌, ◌++◌, length, map, Some}
+use Rattle.std.specs.Prelude.{if◌then◌else◌}
 use Rattle.std.specs.List.{filter}
 use Rattle.std.specs.FinMap.{entries}
+use Rattle.mc_model.specs.declared.cause.Cause.TheVariants.{Backlog}
 use Rattle.mc_model.specs.Step.{Event, took, forgot, step}
 use Rattle.mc_model.specs.Stages.{is_closed}
 use Rattle.mc_model.specs.Link.{Link}
-use Rattle.mc_model.specs.Run.{history, owed_in}
+use Rattle.mc_model.specs.Run.{cause_in, history, owed_in}
 use Rattle.mc_model.specs.World.{World}
 use Rattle.mc_events.specs.Asking.{is_done_in}
 
@@ -40,6 +42,17 @@ settled_log w (e ∷ events) =
 abbrev pub settled_world : World → List Event → World
 settled_world w [] = w
 settled_world w (e ∷ events) = settled_world (settled (step w e).world) events
+
+-- ---- outboxes
+
+-- no connection was closed since more was due to it than its outbox holds
+abbrev pub NoneFull : World → Type 0
+NoneFull w = (k : ℕ) → cause_in k w ≢ Some Backlog
+
+-- after no event
+abbrev pub NeverFull : World → List Event → Type 0
+NeverFull w [] = Unit {0}
+NeverFull w (e ∷ events) = NoneFull (step w e).world × NeverFull (step w e).world events
 
 -- ---- one connection after another
 

@@ -15,10 +15,12 @@ pub returns-clause-bytes : goal.returns-clause-bytes
 returns-clause-bytes c =
     let n = c.args.clients in
     let h = c.in_ok-played.ensures.played (before_load n) c.in_ok-server.ensures.stands in
-    h.counted ∙ load_counted n c.args.ticks
+    let keeps = keeps_all n c.args.ticks (settings_are n c.requires.some c.requires.few) h.bytes
+    h.clear in
+    h.counted ∙ load_counted n c.args.ticks keeps.whole
 
 pub returns-clause-keeps : goal.returns-clause-keeps
 returns-clause-keeps c =
     let n = c.args.clients in
     let h = c.in_ok-played.ensures.played (before_load n) c.in_ok-server.ensures.stands in
-    keeps_all n c.args.ticks (settings_are n c.requires.some c.requires.few) h.bytes
+    keeps_all n c.args.ticks (settings_are n c.requires.some c.requires.few) h.bytes h.clear

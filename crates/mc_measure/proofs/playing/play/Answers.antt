@@ -8,5 +8,5 @@ pub returns-clause-played : goal.returns-clause-played
 returns-clause-played g c w bytes st =
     let now = c.in_ok-event.ensures.follows w st in
     IfOk-weaker c.settle.result _ _
-    (λ count s. played_one c.args.input w c.settle.new.server _ count bytes s.0 now.plans s.1)
+    (λ count s. played_one c.args.input w c.settle.new.server _ count bytes s.0 now.plans s.1 s.2)
     (c.settle.ensures.settled (step w (event_of c.args.input)).world now.stands)
