@@ -1,4 +1,3 @@
-pub mod Taken
 pub mod TextFronts
 pub mod LongTexts
 pub mod BotTexts

@@ -22,36 +22,38 @@ use Rattle.mc_server.specs.Minded.{ServedValue, StandsFor}
 use Rattle.mc_server.proofs.Plans.{step_plans}
 use Rattle.mc_words.specs.declared.script_line.ScriptEvent.{ScriptEvent}
 use Rattle.mc_text.proofs.Growing.{grows_two, part_of}
-use Rattle.mc_top.specs.ReplayText.{lines_after, settled, replay_text, line_events, events_of}
-use Rattle.mc_top.specs.ReplayText.{is_shut, owes}
-use Rattle.mc_top.specs.Replaying.{HasPlayed, HasStopped, replay_world, line_ticks, ticks_of}
-use Rattle.mc_top.proofs.Taking.{settled_is, tooks}
+use Rattle.mc_measure.specs.Settling.{settled}
+use Rattle.mc_top.specs.ReplayText.{lines_after, replay_text, line_events, events_of}
+use Rattle.mc_measure.specs.Settling.{is_shut, owes}
+use Rattle.mc_measure.specs.Settling.{settled_world}
+use Rattle.mc_top.specs.Replaying.{HasPlayed, HasStopped, line_ticks, ticks_of}
+use Rattle.mc_measure.proofs.Takings.{settled_is, tooks}
 
 -- ---- some events and then others
 
 text_more : (w : World) (xs ys : List Event) →
-    replay_text w (xs ++ ys) ≡ replay_text w xs ++ replay_text (replay_world w xs) ys
+    replay_text w (xs ++ ys) ≡ replay_text w xs ++ replay_text (settled_world w xs) ys
 text_more w [] ys = refl
 text_more w (e ∷ xs) ys =
     grind (arith, nat_tests, append_assoc, text_more (settled (step w e).world) xs ys)
 
 world_more : (w : World) (xs ys : List Event) →
-    replay_world w (xs ++ ys) ≡ replay_world (replay_world w xs) ys
+    settled_world w (xs ++ ys) ≡ settled_world (settled_world w xs) ys
 world_more w [] ys = refl
 world_more w (e ∷ xs) ys = world_more (settled (step w e).world) xs ys
 
 pub played_two : (xs ys : List Event) (w : World) (middle server : ServedValue)
     (held half held' : Option (List ℕ)) → HasPlayed xs w middle held half →
-    HasPlayed ys (replay_world w xs) server half held' → HasPlayed (xs ++ ys) w server held held'
+    HasPlayed ys (settled_world w xs) server half held' → HasPlayed (xs ++ ys) w server held held'
 played_two xs ys w middle server held half held' a b =
     grind (arith, nat_tests, world_more, text_more, grows_two)
 
 pub stopped_two : (xs ys : List Event) (w : World)
     (middle : ServedValue) (held half held' : Option (List ℕ)) → HasPlayed xs w middle held half →
-    HasStopped ys (replay_world w xs) half held' → HasStopped (xs ++ ys) w held held'
+    HasStopped ys (settled_world w xs) half held' → HasStopped (xs ++ ys) w held held'
 stopped_two xs ys w middle held half held' a b =
     let Q : List ℕ → Type 0 = λ t. Grows held held' t in
-    let more : List ℕ = replay_text (replay_world w xs) ys in
+    let more : List ℕ = replay_text (settled_world w xs) ys in
     record {
       len = length (replay_text w xs) + b.len;
       wrote = subst Q (sym (ap (take (length (replay_text w xs) + b.len)) (text_more w xs ys)
@@ -63,7 +65,7 @@ pub stopped_before : (xs ys : List Event) (w : World) (held held' : Option (List
     HasStopped xs w held held' → HasStopped (xs ++ ys) w held held'
 stopped_before xs ys w held held' s =
     let Q : List ℕ → Type 0 = λ t. Grows held held' t in
-    let part = part_of s.len (replay_text w xs) (replay_text (replay_world w xs) ys) in
+    let part = part_of s.len (replay_text w xs) (replay_text (settled_world w xs) ys) in
     record {
       len = part.0;
       wrote = subst Q (sym (ap (take part.0) (text_more w xs ys) ∙ part.1)) s.wrote;
@@ -119,7 +121,7 @@ ticks_next n count less =
 
 pub ticks_played : (n : ℕ) (w : World) (middle server : ServedValue)
     (held half held' : Option (List ℕ)) → HasPlayed (replicate n ticked) w middle held half →
-    HasPlayed (ticked ∷ []) (replay_world w (replicate n ticked)) server half held' →
+    HasPlayed (ticked ∷ []) (settled_world w (replicate n ticked)) server half held' →
     HasPlayed (replicate (n + 1) ticked) w server held held'
 ticks_played n w middle server held half held' a b =
     let P : List Event → Type 0 = λ es. HasPlayed es w server held held' in
@@ -129,7 +131,7 @@ ticks_played n w middle server held half held' a b =
 pub ticks_stopped : (n count : ℕ) (w : World)
     (middle : ServedValue) (held half held' : Option (List ℕ)) → n < count →
     HasPlayed (replicate n ticked) w middle held half →
-    HasStopped (ticked ∷ []) (replay_world w (replicate n ticked)) half held' →
+    HasStopped (ticked ∷ []) (settled_world w (replicate n ticked)) half held' →
     HasStopped (replicate count ticked) w held held'
 ticks_stopped n count w middle held half held' less a b =
     let P : List Event → Type 0 = λ es. HasStopped es w held held' in
@@ -157,7 +159,7 @@ lines_before events i = ap events_of (sym (take-append-drop i events))
 pub lines_played : (events : List ScriptEvent) (i : ℕ) (e : ScriptEvent) (w : World)
     (middle server : ServedValue) (held half held' : Option (List ℕ)) → i < length events →
     e ≡ get_or events i e → HasPlayed (events_of (take i events)) w middle held half →
-    HasPlayed (line_events e) (replay_world w (events_of (take i events))) server half held' →
+    HasPlayed (line_events e) (settled_world w (events_of (take i events))) server half held' →
     HasPlayed (events_of (take (i + 1) events)) w server held held'
 lines_played events i e w middle server held half held' within is a b =
     let P : List Event → Type 0 = λ es. HasPlayed es w server held held' in
@@ -167,7 +169,7 @@ lines_played events i e w middle server held half held' within is a b =
 pub lines_stopped : (events : List ScriptEvent) (i : ℕ) (e : ScriptEvent)
     (w : World) (middle : ServedValue) (held half held' : Option (List ℕ)) → i < length events →
     e ≡ get_or events i e → HasPlayed (events_of (take i events)) w middle held half →
-    HasStopped (line_events e) (replay_world w (events_of (take i events))) half held' →
+    HasStopped (line_events e) (settled_world w (events_of (take i events))) half held' →
     HasStopped (events_of events) w held held'
 lines_stopped events i e w middle held half held' within is a b =
     let P : List Event → Type 0 = λ es. HasStopped es w held held' in

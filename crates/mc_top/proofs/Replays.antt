@@ -23,7 +23,8 @@ use Rattle.mc_words.specs.Script.{script_of}
 use Rattle.mc_words.specs.Told.{Tells}
 use Rattle.mc_words.proofs.Delivering.{IsTelling, of_read}
 use Rattle.mc_text.proofs.Growing.{grows_none}
-use Rattle.mc_top.specs.ReplayText.{events_of, replay_text, replay_log}
+use Rattle.mc_measure.specs.Settling.{settled_log}
+use Rattle.mc_top.specs.ReplayText.{events_of, replay_text}
 use Rattle.mc_top.specs.Replaying.{HasStopped}
 use Rattle.mc_top.specs.ReplayPromise.{IsPlayed, IsScriptText, KeepsAll, Plays, replay_told}
 use Rattle.mc_top.specs.ReplayPromise.{told_script}
@@ -90,9 +91,9 @@ replay_telling start = record {
 whole_promise : (start : Start) (bytes : List ℕ) (events : List ScriptEvent) →
     AreSettings start.settings.players start.settings.cap →
     script_of bytes ≡ Ok events →
-    Headline start (replay_log (new_world start) (events_of events))
+    Headline start (settled_log (new_world start) (events_of events))
 whole_promise start bytes events settings is =
-    headline start (replay_log (new_world start) (events_of events)) settings
+    headline start (settled_log (new_world start) (events_of events)) settings
     (script_bytes (new_world start) bytes events is)
 
 keeps_all : (start : Start) (input : List ℕ) (events : List ScriptEvent) →

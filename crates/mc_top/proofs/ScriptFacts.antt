@@ -29,7 +29,8 @@ use Rattle.mc_words.specs.Script.{is_next, numbered, hex_of, bytes_event}
 use Rattle.mc_words.specs.Script.{join_event, ticks_event, one_word, two_words, three_words}
 use Rattle.mc_words.specs.Script.{words_event, some_event, line_event, after_event}
 use Rattle.mc_words.specs.Script.{with_events, then_, at_first, lines_events, script_of}
-use Rattle.mc_top.specs.ReplayText.{owes, is_shut, takings, settled, replay_log, line_events}
+use Rattle.mc_measure.specs.Settling.{owes, is_shut, takings, settled, settled_log}
+use Rattle.mc_top.specs.ReplayText.{line_events}
 use Rattle.mc_top.specs.ReplayText.{events_of}
 use Rattle.mc_top.specs.Replaying.{line_ticks, ticks_of}
 
@@ -201,12 +202,12 @@ takings_fit w =
     bytes_append (map (λ (e : ℕ × Link). took e.0 (length e.1.owed)) owing)
     (map (λ (e : ℕ × Link). forgot e.0) shut) (tooks_fit owing) (forgots_fit shut)
 
-pub log_fits : (w : World) (events : List Event) → AreBytes events → AreBytes (replay_log w events)
+pub log_fits : (w : World) (events : List Event) → AreBytes events → AreBytes (settled_log w events)
 log_fits w [] fit = tt
 log_fits w (e ∷ events) fit =
     let v : World = (step w e).world in
     let parts = first_bytes e events fit in
-    bytes_append (e ∷ takings v) (replay_log (settled v) events)
+    bytes_append (e ∷ takings v) (settled_log (settled v) events)
     (bytes_both e (takings v) parts.0 (takings_fit v)) (log_fits (settled v) events parts.1)
 
 ticks_bytes : (n : ℕ) → AreBytes (replicate n ticked)
@@ -223,6 +224,6 @@ events_bytes (e ∷ events) fits = bytes_append (line_events e) (events_of event
 
 -- all that happens in a script are bytes
 pub script_bytes : (w : World) (text : List ℕ) (events : List ScriptEvent) →
-    script_of text ≡ Ok events → AreBytes (replay_log w (events_of events))
+    script_of text ≡ Ok events → AreBytes (settled_log w (events_of events))
 script_bytes w text events is =
     log_fits w (events_of events) (events_bytes events (script_fits text events is).fits)

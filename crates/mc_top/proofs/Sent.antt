@@ -18,11 +18,14 @@ use Rattle.mc_model.specs.World.{World, new_world}
 use Rattle.mc_events.proofs.Loops.{AreOnce}
 use Rattle.mc_words.specs.declared.script_line.ScriptEvent.{ScriptEvent}
 use Rattle.mc_words.specs.declared.script_line.ScriptEvent.TheVariants.{Joined, Came, Gone, Ticks}
-use Rattle.mc_top.specs.ReplayText.{tells_sent, tells_shut, sent_for, sent_to, owes, tellings}
-use Rattle.mc_top.specs.ReplayText.{takings, settled, replay_log, replay_tellings, events_of}
+use Rattle.mc_measure.specs.Settling.{owes}
+use Rattle.mc_top.specs.ReplayText.{tells_sent, tells_shut, sent_for, sent_to, tellings}
+use Rattle.mc_measure.specs.Settling.{takings, settled, settled_log}
+use Rattle.mc_top.specs.ReplayText.{replay_tellings, events_of}
 use Rattle.mc_top.specs.ReplayText.{IsToldTaken}
-use Rattle.mc_top.proofs.Taken.{took_other}
-use Rattle.mc_top.proofs.Taking.{AreAt, all_once, all_there, as_is, numbers, settled_none, still_at}
+use Rattle.mc_measure.proofs.Taken.{took_other}
+use Rattle.mc_measure.proofs.Takings.{AreAt, all_once, all_there, as_is, numbers, settled_none}
+use Rattle.mc_measure.proofs.Takings.{still_at}
 
 -- ---- one event
 
@@ -105,14 +108,14 @@ events_none (Gone k ∷ events) = events_none events
 events_none (Ticks n ∷ events) = ticks_none n (events_of events) (events_none events)
 
 log_taken : (k : ℕ) (w : World) (events : List Event) → TakeNone events →
-    taken k w (replay_log w events) ≡ sent_to k (replay_tellings w events)
+    taken k w (settled_log w events) ≡ sent_to k (replay_tellings w events)
 log_taken k w [] none = refl
 log_taken k w (e ∷ events) none =
     let v : World = (step w e).world in
     let later = log_taken k (settled v) events (none_later e events none) in
     rw (
       none_first k w e events none,
-      taken_more k v (takings v) (replay_log (settled v) events),
+      taken_more k v (takings v) (settled_log (settled v) events),
       takings_are,
       later,
       flat_map-append (sent_for k) (tellings v) (replay_tellings (settled v) events),
@@ -120,7 +123,7 @@ log_taken k w (e ∷ events) none =
 
 -- what the lines of a script tell
 pub script_taken : (k : ℕ) (w : World) (events : List ScriptEvent) →
-    taken k w (replay_log w (events_of events)) ≡ sent_to k (replay_tellings w (events_of events))
+    taken k w (settled_log w (events_of events)) ≡ sent_to k (replay_tellings w (events_of events))
 script_taken k w events = log_taken k w (events_of events) (events_none events)
 
 -- ---- at the end nothing is owed
@@ -129,12 +132,12 @@ abbrev OwesNone : World → Type 0
 OwesNone w = (k : ℕ) → owed_in k w ≡ []
 
 log_none : (w : World) (events : List Event) → OwesNone w →
-    OwesNone (history w (replay_log w events))
+    OwesNone (history w (settled_log w events))
 log_none w [] none = none
 log_none w (e ∷ events) none =
     let v : World = (step w e).world in
     let P : World → Type 0 = λ u. OwesNone u in
-    subst P (sym (fold-append _ v (takings v) (replay_log (settled v) events)))
+    subst P (sym (fold-append _ v (takings v) (settled_log (settled v) events)))
     (log_none (settled v) events (settled_none v))
 
 -- ---- nothing is lost
@@ -165,13 +168,13 @@ unfolding takings
 takings_lost k w = rw (lost_more, took_lost, forgot_lost) refl
 
 log_lost : (k : ℕ) (w : World) (events : List Event) → OwesNone w →
-    lost k w (replay_log w events) ≡ []
+    lost k w (settled_log w events) ≡ []
 log_lost k w [] none = refl
 log_lost k w (e ∷ events) none =
     let v : World = (step w e).world in
     rw (
       lost_none k w e (none k),
-      lost_more k v (takings v) (replay_log (settled v) events),
+      lost_more k v (takings v) (settled_log (settled v) events),
       takings_lost,
       log_lost k (settled v) events (settled_none v),
     ) refl
@@ -179,11 +182,11 @@ log_lost k w (e ∷ events) none =
 -- ---- what is told is what was taken
 
 pub told_taken : (start : Start) (events : List ScriptEvent) (k : ℕ) →
-    Headline start (replay_log (new_world start) (events_of events)) →
+    Headline start (settled_log (new_world start) (events_of events)) →
     IsToldTaken k (new_world start) (events_of events)
 told_taken start events k promise =
     let w : World = new_world start in
-    let log : List Event = replay_log w (events_of events) in
+    let log : List Event = settled_log w (events_of events) in
     let is = script_taken k w events in
     let p = promise.promised log [] k (sym (append-nil log)) in
     let begins : OwesNone w = λ j. ap owed_of (get-empty {X = Link} nat_cmp j) in

@@ -17,11 +17,15 @@ use Rattle.mc_events.specs.Stands.{Stands}
 use Rattle.mc_text.specs.Passes.{Passes, Breaks}
 use Rattle.mc_text.proofs.Passing.{passes_none, passes_next, passes_two, passes_all, breaks_next}
 use Rattle.mc_text.proofs.Passing.{breaks_early, breaks_two}
-use Rattle.mc_top.specs.ReplayText.{lines_after, settled}
-use Rattle.mc_top.specs.Replaying.{taken, taken_of, sent_by, sent_in, all_taken, all_sent}
-use Rattle.mc_top.specs.Replaying.{all_forgotten, all_shut, TakesFront, each, each_line}
-use Rattle.mc_top.proofs.Taken.{owed_after, taken_after}
-use Rattle.mc_top.proofs.Taking.{all_settled, all_told, encode_none, encode_parts}
+use Rattle.mc_measure.specs.Settling.{settled}
+use Rattle.mc_top.specs.ReplayText.{lines_after}
+use Rattle.mc_measure.specs.Settling.{taken, taken_of, all_taken}
+use Rattle.mc_top.specs.Replaying.{sent_by, sent_in, all_sent}
+use Rattle.mc_measure.specs.Settling.{all_forgotten, each}
+use Rattle.mc_top.specs.Replaying.{all_shut, TakesFront, each_line}
+use Rattle.mc_measure.proofs.Taken.{owed_after, taken_after}
+use Rattle.mc_measure.proofs.Takings.{all_settled}
+use Rattle.mc_top.proofs.Taking.{all_told, encode_none, encode_parts}
 
 -- ---- one connection, piece by piece
 

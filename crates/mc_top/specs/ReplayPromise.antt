@@ -12,7 +12,8 @@ use Rattle.mc_words.specs.declared.ended.Ended.{Ended}
 use Rattle.mc_words.specs.declared.ended.Ended.TheVariants as ended
 use Rattle.mc_words.specs.Script.{script_of}
 use Rattle.mc_words.specs.Told.{Told}
-use Rattle.mc_top.specs.ReplayText.{events_of, replay_text, replay_log, IsToldTaken}
+use Rattle.mc_measure.specs.Settling.{settled_log}
+use Rattle.mc_top.specs.ReplayText.{events_of, replay_text, IsToldTaken}
 
 -- the settings that a world begins with by the options
 abbrev pub settings_of : WorldOptions → Settings
@@ -44,7 +45,7 @@ IsScriptText text = (events : List ScriptEvent) × (script_of text ≡ Ok events
 -- all that happens in a script keeps the whole promise about a run, and the `sent` lines tell just
 -- the bytes of that promise
 pub record KeepsAll (start : Start) (events : List ScriptEvent) : Type 0 where
-  pub promise : Headline start (replay_log (new_world start) (events_of events))
+  pub promise : Headline start (settled_log (new_world start) (events_of events))
   pub sent : (k : ℕ) → IsToldTaken k (new_world start) (events_of events)
 
 -- the input is a script without fault, where it is told, and what its lines say keeps all of that

@@ -12,6 +12,7 @@ use Rattle.mc_model.specs.Stages.{is_closed}
 use Rattle.mc_model.specs.Link.{Link}
 use Rattle.mc_model.specs.Run.{history, stream, taken, why}
 use Rattle.mc_model.specs.World.{World}
+use Rattle.mc_measure.specs.Settling.{is_shut, owes, settled, settled_log}
 use Rattle.mc_words.specs.declared.script_line.ScriptEvent.{ScriptEvent}
 use Rattle.mc_words.specs.declared.script_line.ScriptEvent.TheVariants.{Joined, Came, Gone, Ticks}
 
@@ -28,13 +29,6 @@ telling_line (tells_sent k bytes) =
     codes "sent " ++ decimal k ++ codes " " ++ encode_lower bytes ++ 10 ∷ []
 telling_line (tells_shut k) = codes "shut " ++ decimal k ++ 10 ∷ []
 
--- of connections by their numbers
-abbrev pub owes : ℕ × Link → Bool
-owes e = nat_lt 0 (length e.1.owed)
-
-abbrev pub is_shut : ℕ × Link → Bool
-is_shut e = is_closed e.1.stage
-
 -- each that is owed bytes, in rising numbers, and then each that is closed
 unfoldable pub tellings : World → List Telling
 tellings w =
@@ -44,15 +38,6 @@ tellings w =
 -- the lines of a world after an event
 unfoldable pub lines_after : World → List ℕ
 lines_after w = flat_map telling_line (tellings w)
-
--- each takes all that it is owed, and those that are closed are forgotten
-unfoldable pub takings : World → List Event
-takings w =
-    map (λ (e : ℕ × Link). took e.0 (length e.1.owed)) (filter owes (entries w.links))
-    ++ map (λ (e : ℕ × Link). forgot e.0) (filter is_shut (entries w.links))
-
-abbrev pub settled : World → World
-settled w = history w (takings w)
 
 -- ---- all events
 
@@ -66,12 +51,6 @@ abbrev pub replay_tellings : World → List Event → List Telling
 replay_tellings w [] = []
 replay_tellings w (e ∷ events) =
     tellings (step w e).world ++ replay_tellings (settled (step w e).world) events
-
--- all that happens
-abbrev pub replay_log : World → List Event → List Event
-replay_log w [] = []
-replay_log w (e ∷ events) =
-    e ∷ takings (step w e).world ++ replay_log (settled (step w e).world) events
 
 -- ---- what the `sent` lines of one connection tell
 
@@ -87,11 +66,11 @@ sent_to k all = flat_map (sent_for k) all
 -- took in the log, so the first ones of its stream, and all of that unless it was closed as
 -- Backlog.
 pub record IsToldTaken (k : ℕ) (w : World) (events : List Event) : Type 0 where
-  pub is_taken : sent_to k (replay_tellings w events) ≡ taken k w (replay_log w events)
+  pub is_taken : sent_to k (replay_tellings w events) ≡ taken k w (settled_log w events)
   pub begun : (more : List ℕ) ×
-      (stream k w (replay_log w events) ≡ sent_to k (replay_tellings w events) ++ more)
-  pub whole : why k w (replay_log w events) ≢ Some Backlog →
-      stream k w (replay_log w events) ≡ sent_to k (replay_tellings w events)
+      (stream k w (settled_log w events) ≡ sent_to k (replay_tellings w events) ++ more)
+  pub whole : why k w (settled_log w events) ≢ Some Backlog →
+      stream k w (settled_log w events) ≡ sent_to k (replay_tellings w events)
 
 -- ---- the events of a script: a line of ticks is so many
 

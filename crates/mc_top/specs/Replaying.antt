@@ -13,20 +13,13 @@ use Rattle.mc_events.specs.Served.{ServerValue}
 use Rattle.mc_events.specs.Stands.{Stands}
 use Rattle.mc_events.specs.Asking.{is_done_in}
 use Rattle.mc_server.specs.Minded.{ServedValue, StandsFor}
+use Rattle.mc_measure.specs.Settling.{forgotten, settled_world, taken}
 use Rattle.mc_words.specs.declared.script_line.ScriptEvent.{ScriptEvent}
 use Rattle.mc_words.specs.declared.script_line.ScriptEvent.TheVariants.{Ticks}
 use Rattle.mc_text.specs.Passes.{Passes}
-use Rattle.mc_top.specs.ReplayText.{settled, replay_text}
+use Rattle.mc_top.specs.ReplayText.{replay_text}
 
 -- ---- one connection after an event
-
--- it took all that it was owed, where that was anything
-abbrev pub taken_of : ℕ → World → List ℕ → World
-taken_of k w [] = w
-taken_of k w (b ∷ bytes) = (step w (took k (length (b ∷ bytes)))).world
-
-abbrev pub taken : ℕ → World → World
-taken k w = taken_of k w (owed_in k w)
 
 -- its line of bytes, where there are any
 abbrev pub sent_by : ℕ → List ℕ → List ℕ
@@ -43,10 +36,6 @@ TakesFront k w server held held' old new true =
     (n : ℕ) × (0 < n) × (n ≤ length (owed_in k w)) × Stands server (step w (took k n)).world
     × Passes held held' old (encode_lower (take n (owed_in k w))) new []
 
--- it was forgotten, where it was closed and owed nothing
-abbrev pub forgotten : ℕ → World → World
-forgotten k w = if is_done_in k w then (step w (forgot k)).world else w
-
 -- the line of one that is closed
 abbrev pub shut_by : ℕ → Bool → List ℕ
 shut_by k false = []
@@ -54,12 +43,7 @@ shut_by k true = codes "shut " ++ decimal k ++ 10 ∷ []
 
 -- ---- some connections, one after another
 
--- what changes make of a world, one for each connection
-abbrev pub each : (ℕ → World → World) → List ℕ → World → World
-each change [] w = w
-each change (k ∷ ks) w = each change ks (change k w)
-
--- and what is written at each
+-- what is written at each of some connections, which a change goes through
 abbrev pub each_line : (ℕ → World → World) → (ℕ → World → List ℕ) → List ℕ → World → List ℕ
 each_line change line [] w = []
 each_line change line (k ∷ ks) w = line k w ++ each_line change line ks (change k w)
@@ -70,29 +54,18 @@ sent_in k w = sent_by k (owed_in k w)
 abbrev pub shut_in : ℕ → World → List ℕ
 shut_in k w = shut_by k (is_done_in k w)
 
-abbrev pub all_taken : List ℕ → World → World
-all_taken ks w = each taken ks w
-
 abbrev pub all_sent : List ℕ → World → List ℕ
 all_sent ks w = each_line taken sent_in ks w
-
-abbrev pub all_forgotten : List ℕ → World → World
-all_forgotten ks w = each forgotten ks w
 
 abbrev pub all_shut : List ℕ → World → List ℕ
 all_shut ks w = each_line forgotten shut_in ks w
 
 -- ---- events
 
--- the world after events, when all was taken
-abbrev pub replay_world : World → List Event → World
-replay_world w [] = w
-replay_world w (e ∷ events) = replay_world (settled (step w e).world) events
-
 -- the server stands with its minds for the world after events, and their text was written
 pub record HasPlayed (events : List Event) (w : World) (served : ServedValue)
     (held held' : Option (List ℕ)) : Type 0 where
-  pub stands : StandsFor served (replay_world w events)
+  pub stands : StandsFor served (settled_world w events)
   pub wrote : Grows held held' (replay_text w events)
 
 -- some first part of the text of events was written

@@ -7,9 +7,12 @@ ghost use Rattle.mc_model.specs.World.{World};
 ghost use Rattle.mc_events.specs.Served.{age_of};
 ghost use Rattle.mc_events.specs.Stands.{Stands};
 ghost use Rattle.mc_text.specs.Passes.{Breaks, Passes};
-ghost use Rattle.mc_top.specs.ReplayText.{settled, lines_after};
-ghost use Rattle.mc_top.specs.Replaying.{TakesFront, taken, sent_in, forgotten, shut_in, all_taken};
-ghost use Rattle.mc_top.specs.Replaying.{all_sent, all_forgotten, all_shut};
+ghost use Rattle.mc_measure.specs.Settling.{settled};
+ghost use Rattle.mc_top.specs.ReplayText.{lines_after};
+ghost use Rattle.mc_measure.specs.Settling.{taken, forgotten, all_taken};
+ghost use Rattle.mc_top.specs.Replaying.{TakesFront, sent_in, shut_in};
+ghost use Rattle.mc_measure.specs.Settling.{all_forgotten};
+ghost use Rattle.mc_top.specs.Replaying.{all_sent, all_shut};
 
 use mc_events::Server;
 use mc_text::{HEX_PIECE, Unfinished, put, put_hex, write_out};

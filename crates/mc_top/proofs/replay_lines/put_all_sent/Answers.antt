@@ -1,7 +1,8 @@
 use Rattle.std.proofs.Common.{get_or, refl, inl, ◌∙◌}
 use Rattle.std.proofs.lemmas.Result.{err_from_is_err_and}
 use Rattle.mc_wire.proofs.Counts.{StandsOrRises-trans}
-use Rattle.mc_top.specs.Replaying.{taken, sent_in}
+use Rattle.mc_measure.specs.Settling.{taken}
+use Rattle.mc_top.specs.Replaying.{sent_in}
 use Rattle.mc_top.proofs.Tellings.{underway_start, underway_next, underway_breaks}
 use Rattle.mc_top.proofs.replay_lines.put_all_sent.Goals as goal
 

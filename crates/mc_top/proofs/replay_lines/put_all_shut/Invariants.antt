@@ -3,7 +3,8 @@ use Rattle.mc_wire.specs.Count.{StandsOrRises}
 use Rattle.mc_model.specs.World.{World}
 use Rattle.mc_events.specs.Served.{age_of}
 use Rattle.mc_events.specs.Stands.{Stands}
-use Rattle.mc_top.specs.Replaying.{forgotten, shut_in}
+use Rattle.mc_measure.specs.Settling.{forgotten}
+use Rattle.mc_top.specs.Replaying.{shut_in}
 use Rattle.mc_top.proofs.Tellings.{IsUnderway}
 use Rattle.mc_top.proofs.replay_lines.put_all_shut.Given as goal
 

@@ -2,7 +2,8 @@ use Rattle.std.proofs.Common.{◌≡◌, List, ℕ, [], subst, ◌∙◌}
 use Rattle.std.proofs.lemmas.Result.{err_from_is_err_and}
 use Rattle.mc_events.specs.Asking.{pending_in}
 use Rattle.mc_text.specs.Passes.{Passes, Breaks}
-use Rattle.mc_top.specs.Replaying.{all_taken, all_sent}
+use Rattle.mc_measure.specs.Settling.{all_taken}
+use Rattle.mc_top.specs.Replaying.{all_sent}
 use Rattle.mc_top.proofs.Tellings.{lines_put, lines_break_sent, lines_break_shut, lines_break_out}
 use Rattle.mc_top.proofs.replay_lines.put_lines.Goals as goal
 
