@@ -1,14 +1,12 @@
--- That no outbox was too small: where none of those that are owed bytes or closed was closed so, and
--- as long as connections only take and are forgotten.
-use Rattle.std.proofs.Common.{◌≡◌, ◌≢◌, ℕ, Bool, true, false, cond, List, [], ◌∷◌, ◌++◌, length}
+-- That no outbox was too small: where none of those that are owed bytes or closed was closed so,
+-- and as long as connections only take and are forgotten.
+use Rattle.std.proofs.Common.{◌≡◌, ◌≢◌, ℕ, true, List, [], ◌∷◌, ◌++◌, length}
 use Rattle.std.proofs.Common.{map, refl, sym, subst, ap, ◌∙◌, inl, inr, arith}
 use Rattle.std.specs.Prelude.{Option, Some, None, is_some}
 use Rattle.std.specs.List.{AllByRecursion, filter}
 use Rattle.std.specs.Option.{option_and_then}
 use Rattle.std.specs.FinMap.{contains_key-keys, entries, get}
 use Rattle.std.proofs.lemmas.Bool.{cases_eq}
-use Rattle.std.proofs.lemmas.Bool.Decides.{nat_tests}
-use Rattle.mc_wire.specs.declared.log.LogEntry.TheVariants.{Closed}
 use Rattle.mc_model.specs.declared.cause.Cause.{Cause}
 use Rattle.mc_model.specs.declared.cause.Cause.TheVariants.{Backlog}
 use Rattle.mc_model.specs.Step.{Event, forgot, step, took}
