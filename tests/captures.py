@@ -10,7 +10,7 @@ import tempfile
 import time
 
 import protocol
-from bots import Bot, example
+from bots import KIT, Bot, check_dump, dump_of, example
 from client import PATIENCE, Client, ask_pong, expect, log_in, pump, wait_for_end
 from protocol import Frames
 from program import Program, free_port, run
@@ -81,10 +81,13 @@ def frame_of(line):
 
 
 def script_of(lines):
-    """Write the script of events that happened as a capture's lines tell it."""
+    """Write the script of events that happened as a capture's lines tell it. Bytes that were no
+    frame are not told; a length that no frame has stands for them."""
     script = []
     for line in lines:
-        if line.startswith("up "):
+        if re.fullmatch(r"up \d+ fault", line):
+            script.append(f"bytes {line.split(' ')[1]} 808080")
+        elif line.startswith("up "):
             connection, frame = frame_of(line)
             script.append(f"bytes {connection} {frame.hex()}")
         elif line == "tick" or line.startswith(("join ", "gone ")):
@@ -107,7 +110,7 @@ def frames_to(pairs):
 
 def a_bot_is_seen_in_a_capture(path):
     """The capture of a run in which a bot digs and places: who joined, how far both ways come, and
-    what the bot saw, but for the age and the beat of ticks that came behind its last packet."""
+    what it was shown. The bot leaves at a cell that it sees; behind that comes what it carries."""
     def play(program):
         ended = Bot(path, program.port, example("dig_and_place.bot")).finish()
         expect(program.finish()[0] == 0, "the server does not end with the bot")
@@ -125,8 +128,8 @@ def a_bot_is_seen_in_a_capture(path):
     expect(downs[0] == ["login", "02", "Success"], f"it is answered {downs[0]}")
     expect(downs[1] == ["play", "01", "JoinGame"], f"it is told {downs[1]}")
     shown = run(path, "show", "client=0", input=capture)
-    expect(shown[0] == 0 and shown[2] == "", f"show ends with {shown}")
-    expect(shown[1].splitlines()[2:] == ended[1].splitlines()[2:], "what is shown is not as seen")
+    check_dump(shown, dump_of(["Al"], 1, ["2 item 368 96 272 0 0 0 2 1 0"],
+                              pack={**KIT, 28: "3 62 0"}))
     expect(run(path, "show", "client=1", input=capture) == (0, "age none\nbeat none\n", ""), "nobody")
 
 
