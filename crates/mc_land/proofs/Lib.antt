@@ -13,3 +13,4 @@ mod LookFacts
 mod ChangeFacts
 mod SetFacts
 mod PutFacts
+mod UpkeepFacts

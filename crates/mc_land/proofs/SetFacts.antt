@@ -22,7 +22,7 @@ use Rattle.mc_land.specs.Kept.{kept_edits, IsApart}
 use Rattle.mc_land.specs.KeptLand.{Columns, placed, present_states, settled_states, IsFresh}
 use Rattle.mc_land.specs.KeptLand.{IsIndexed, IsOwn, IsPut}
 use Rattle.mc_land.specs.Ready.{ReadyValue, set_cell}
-use Rattle.mc_land.specs.ReadyCode.{set_at}
+use Rattle.mc_land.specs.ReadyCode.{changed_at, set_at}
 use Rattle.mc_land.proofs.Orders.{places_total, exact_places, keys_total, exact_keys}
 use Rattle.mc_land.proofs.LandFacts.{Puts, set_edits}
 use Rattle.mc_land.proofs.KeptLandFacts.{apart, find_map}
@@ -40,7 +40,7 @@ at_place : (place : Place) (i state : ℕ) (ready : ReadyValue) → ready.place 
     set_at place i state ready ≡ set_cell ready i state
 at_place place i state ready e = grind (arith, nat_tests)
 
-elsewhere : (place : Place) (i state : ℕ) (ready : ReadyValue) → (ready.place ≡ place → ⊥) →
+pub elsewhere : (place : Place) (i state : ℕ) (ready : ReadyValue) → (ready.place ≡ place → ⊥) →
     set_at place i state ready ≡ ready
 elsewhere place i state ready ne = grind (arith, nat_tests)
 
@@ -52,30 +52,47 @@ set_settled : (place : Place) (i state : ℕ) (ready : ReadyValue) →
     (set_at place i state ready).settled ≡ ready.settled
 set_settled place i state ready = grind (arith, nat_tests)
 
--- setting the column that the index names is setting the column of the place
-pub set_is_map : (columns new : List ReadyValue) (index : List (Place × ℕ)) (place : Place)
-    (n i state : ℕ) → IsIndexed columns index → find place_cmp place index ≡ Some n →
-    ((d : ReadyValue) → new ≡ set columns n (set_cell (get_or columns n d) i state)) →
-    new ≡ map (set_at place i state) columns
-set_is_map [] new index place n i state is e each = absurd (omega (arith, is.listed place n e))
-set_is_map (d ∷ ds) new index place n i state is e each =
-    let columns : List ReadyValue = d ∷ ds in
-    each d ∙ ext_get_or d (set (d ∷ ds) n (set_cell (get_or (d ∷ ds) n d) i state))
-    (map (set_at place i state) (d ∷ ds)) (length-set (d ∷ ds) n (set_cell (get_or (d ∷ ds) n d)
-    i state) ∙ sym (length-map (d ∷ ds) (set_at place i state))) (λ k lt.
+changed_here : (place : Place) (f : ReadyValue → ReadyValue) (ready : ReadyValue) →
+    ready.place ≡ place → changed_at place f ready ≡ f ready
+changed_here place f ready e = grind (arith, nat_tests)
+
+changed_elsewhere : (place : Place) (f : ReadyValue → ReadyValue) (ready : ReadyValue) →
+    (ready.place ≡ place → ⊥) → changed_at place f ready ≡ ready
+changed_elsewhere place f ready ne = grind (arith, nat_tests)
+
+-- changing the column that the index names is changing the column of the place
+pub changed_is_map : (f : ReadyValue → ReadyValue) (columns new : List ReadyValue)
+    (index : List (Place × ℕ)) (place : Place) (n : ℕ) → IsIndexed columns index →
+    find place_cmp place index ≡ Some n →
+    ((d : ReadyValue) → new ≡ set columns n (f (get_or columns n d))) →
+    new ≡ map (changed_at place f) columns
+changed_is_map f [] new index place n is e each = absurd (omega (arith, is.listed place n e))
+changed_is_map f (d ∷ ds) new index place n is e each =
+    each d ∙ ext_get_or d (set (d ∷ ds) n (f (get_or (d ∷ ds) n d)))
+    (map (changed_at place f) (d ∷ ds)) (length-set (d ∷ ds) n (f (get_or (d ∷ ds) n d))
+    ∙ sym (length-map (d ∷ ds) (changed_at place f))) (λ k lt.
     let inside : k < length (d ∷ ds) =
-    omega (arith, length-set (d ∷ ds) n (set_cell (get_or (d ∷ ds) n d) i state)) in
+    omega (arith, length-set (d ∷ ds) n (f (get_or (d ∷ ds) n d))) in
     elim (cases_eq k n) [
-      | inl same ↦ grind (arith, nat_tests, get_or-set_same, at_place, get_or-map)
+      | inl same ↦ grind (arith, nat_tests, get_or-set_same, changed_here, get_or-map)
       | inr ne ↦ grind (
         arith,
-        get_or-set_other (d ∷ ds) n k (set_cell (get_or (d ∷ ds) n d) i state) d ne,
-        get_or-map (set_at place i state) (d ∷ ds) k d d inside,
+        get_or-set_other (d ∷ ds) n k (f (get_or (d ∷ ds) n d)) d ne,
+        get_or-map (changed_at place f) (d ∷ ds) k d d inside,
+        changed_elsewhere,
       )
     ])
   where
     some_is : (a b : ℕ) → Some a ≡ Some b → a ≡ b
     some_is a b e = cc
+
+-- setting the column that the index names is setting the column of the place
+pub set_is_map : (columns new : List ReadyValue) (index : List (Place × ℕ)) (place : Place)
+    (n i state : ℕ) → IsIndexed columns index → find place_cmp place index ≡ Some n →
+    ((d : ReadyValue) → new ≡ set columns n (set_cell (get_or columns n d) i state)) →
+    new ≡ map (set_at place i state) columns
+set_is_map columns new index place n i state is e each =
+    changed_is_map (λ r. set_cell r i state) columns new index place n is e each
 
 -- columns keep their places in the index
 pub indexed_map : (f : ReadyValue → ReadyValue) (columns : List ReadyValue) (index : List (Place ×
@@ -94,11 +111,15 @@ pub indexed_set : (columns new : List ReadyValue) (index : List (Place × ℕ)) 
 indexed_set columns new index place i state is indexed =
     rw is (indexed_map (set_at place i state) columns index (set_place place i state) indexed)
 
--- no column of the place, none set
+-- no column of the place, none changed
+pub map_unchanged : (f : ReadyValue → ReadyValue) (columns : List ReadyValue) (place : Place) →
+    find place_cmp place (placed columns) ≡ None → map (changed_at place f) columns ≡ columns
+map_unchanged f [] place none = refl
+map_unchanged f (x ∷ xs) place none = grind (arith, nat_tests, map_unchanged f xs place)
+
 map_unset : (columns : List ReadyValue) (place : Place) (i state : ℕ) →
     find place_cmp place (placed columns) ≡ None → map (set_at place i state) columns ≡ columns
-map_unset [] place i state none = refl
-map_unset (x ∷ xs) place i state none = grind (arith, nat_tests, map_unset xs place i state)
+map_unset columns place i state none = map_unchanged (λ r. set_cell r i state) columns place none
 
 -- ---- a cell is put into a column
 

@@ -9,10 +9,10 @@ use Rattle.std.specs.Ordering.{is_eq, eq_by_cmp, ordering_then, nat_cmp}
 use Rattle.std.specs.Cmp.{tied_itself}
 use Rattle.std.specs.Option.{is_some, option_map}
 use Rattle.std.specs.Map.{lookup}
-use Rattle.std.specs.List.{filter, list_any, range_with_len, swap_remove}
+use Rattle.std.specs.List.{filter, list_any, position, range_with_len, swap_remove}
 use Rattle.std.specs.FinMap.{FinMap, find, get, entries, get-entries}
 use Rattle.std.specs.FinSet as set'
-use Rattle.std.proofs.lemmas.Bool.{cases_eq, lt-ltb, ne_eqb}
+use Rattle.std.proofs.lemmas.Bool.{cases_eq, cases_lt, lt-ltb, ne_eqb}
 use Rattle.std.proofs.lemmas.Bool.{true≢false}
 use Rattle.std.proofs.lemmas.List.{get_or_default, get_or-set_same, get_or-set_other, get_or-take}
 use Rattle.std.proofs.lemmas.List.{length-set, length-take}
@@ -26,7 +26,7 @@ use Rattle.mc_land.specs.KeptLand.{kept_land, IsIndexed, IsKeptLand}
 use Rattle.mc_land.specs.Ready.{ReadyValue}
 use Rattle.mc_land.specs.Sums.{changes_in}
 use Rattle.mc_land.specs.Shed.{IsSettled, View, is_edited, shed_land, stays}
-use Rattle.mc_land.specs.ShedCode.{AreShed, IsShed, IsTakenAway, is_kept}
+use Rattle.mc_land.specs.ShedCode.{AreKept, AreShed, IsShed, IsTakenAway, is_kept}
 use Rattle.mc_land.proofs.Orders.{places_total, keys_total, exact_places}
 use Rattle.mc_land.proofs.EditsFacts.{changed_at, get_kept}
 use Rattle.mc_land.proofs.LandFacts.{same_edits}
@@ -193,6 +193,12 @@ pub repointed_more : (columns : List ReadyValue) (index gone new : List (Place �
 repointed_more columns index gone new i d is before takes points =
     grind (arith, nat_tests, apart_places, tied, untied)
 
+-- an element passes exactly where a first one does
+pub any_position : {X : Type 0} (p : X → Bool) (xs : List X) → list_any p xs ≡
+    is_some (position p xs)
+any_position p [] = refl
+any_position p (x ∷ xs) = grind (arith, nat_tests, any_position p xs)
+
 -- ---- one after another
 
 pub shed_none : (views : List View) (old : List ReadyValue) (n : ℕ) → n ≡ length old →
@@ -212,9 +218,18 @@ pub shed_less : (views : List View) (old now new : List ReadyValue) (index : Lis
 shed_less views old now new index i z d step shed is goes taken =
     grind (arith, length-swapped, found_indexed, swapped_here, swapped_other)
 
+-- where those before i were known to stay, all do
+pub all_kept : (views : List View) (old new : List ReadyValue) (i n : ℕ) → i ≤ n →
+    AreShed views old new i → AreKept views old n → AreKept views new (length new)
+all_kept views old new i n le shed kept k d lt = elim (cases_lt k i) [
+  | inl below ↦ ap (is_kept views) (shed.before k d below) ∙ kept k d (omega arith)
+  | inr above ↦ shed.stay k d (omega arith) lt
+]
+
 pub shed_all : (views : List View) (old new : List ReadyValue) (index : List (Place × ℕ)) (i : ℕ) →
-    i ≤ 0 → AreShed views old new i → IsIndexed new index → IsShed views old new
-shed_all views old new index i least shed is = grind (arith, nat_tests, true≢false, stays_there)
+    AreShed views old new i → AreKept views new (length new) → IsIndexed new index →
+    IsShed views old new
+shed_all views old new index i shed kept is = grind (arith, nat_tests, true≢false, stays_there)
   where
     stays_there : (q : Place) (r : ReadyValue) → find place_cmp q (placed new) ≡ Some r →
         is_kept views r ≡ true
@@ -225,7 +240,7 @@ shed_all views old new index i least shed is = grind (arith, nat_tests, true≢f
           | Some k ↦ λ e.
               let same : get_or new k r ≡ r =
               some_ready (get_or new k r) r (sym (found_indexed q new index k r is e) ∙ there) in
-              ap (is_kept views) (sym same) ∙ shed.stay k r (omega arith) (is.listed q k e)
+              ap (is_kept views) (sym same) ∙ kept k r (is.listed q k e)
         ] refl
 
 -- a column is taken away, where the index is told so
@@ -398,7 +413,7 @@ apart_indexed columns index is = each columns (λ i j d lt lt' same. apart_place
     )
 
 -- what is found after is what was found before
-found_before : (views : List View) (old new : List ReadyValue) (q : Place) (r : ReadyValue) →
+pub found_before : (views : List View) (old new : List ReadyValue) (q : Place) (r : ReadyValue) →
     IsShed views old new → find place_cmp q (placed new) ≡ Some r → find place_cmp q (placed old) ≡
     Some r
 found_before views old new q r shed there = by (find place_cmp q (placed old)) refl
@@ -425,6 +440,18 @@ edits_stay look terrain old new views is is' shed own =
 not_kept : (views : List View) (r : ReadyValue) → is_kept views r ≡ false → changes_in r ≡ 0
 not_kept views r e = grind (arith, nat_tests)
 
+-- each column of a settled land is as it was settled
+pub as_settled : (terrain : Terrain) (columns : Columns) (chests : Chests) (q : Place)
+    (r : ReadyValue) → IsKeptLand terrain columns chests →
+    IsSettled (kept_land terrain columns chests) → find place_cmp q columns ≡ Some r →
+    r.settled.states ≡ r.present.states
+as_settled terrain columns chests q r kept settled' e =
+    states_ready settled terrain columns chests q r kept e
+    (kept.own q r e).settled_sizes.states_are
+    ∙ ap (λ (m : FinMap key_cmp ℕ). states_of terrain m q) settled'.all
+    ∙ sym (states_ready present terrain columns chests q r kept e
+    (kept.own q r e).present_sizes.states_are)
+
 pub shed_keeps : (terrain : Terrain) (old new : List ReadyValue) (index index' : List (Place × ℕ))
     (chests : Chests) (views : List View) → IsKeptLand terrain (placed old) chests ×
     IsIndexed old index → IsSettled (kept_land terrain (placed old) chests) → IsShed views old new →
@@ -438,16 +465,10 @@ shed_keeps terrain old new index index' chests views kept settled' shed is' =
     is_kept views r ≡ false → length (changes terrain q r.present.states) ≡ 0 =
     λ q r e goes. of_place q r (found_place q old r e) (k.own q r e).terrain_is
     (not_kept views r goes) in
-    let as_settled : (q : Place) (r : ReadyValue) → find place_cmp q (placed old) ≡ Some r →
-    r.settled.states ≡ r.present.states = λ q r e. states_ready settled terrain (placed old)
-    chests q r k e (k.own q r e).settled_sizes.states_are ∙
-    ap (λ (m : FinMap key_cmp ℕ). states_of terrain m q) settled'.all ∙
-    sym (states_ready present terrain (placed old) chests q r k e
-    (k.own q r e).present_sizes.states_are) in
     let settled_own : (q : Place) (r : ReadyValue) → find place_cmp q (placed old) ≡ Some r →
     is_kept views r ≡ false → length (changes terrain q r.settled.states) ≡ 0 =
-    λ q r e goes. ap (λ (s : List ℕ). length (changes terrain q s)) (as_settled q r e) ∙
-    present_own q r e goes in
+    λ q r e goes. ap (λ (s : List ℕ). length (changes terrain q s))
+    (as_settled terrain (placed old) chests q r k settled' e) ∙ present_own q r e goes in
     let edits : kept_edits terrain (present_states (placed new)) ≡
     kept_edits terrain (present_states (placed old)) = edits_stay present terrain old new views
     k.columns_apart apart' shed present_own in

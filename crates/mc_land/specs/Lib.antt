@@ -14,3 +14,5 @@ pub mod Shed
 pub mod ShedCode
 pub mod Sums
 pub mod Terrain
+pub mod Touched
+pub mod Upkeep

@@ -25,7 +25,10 @@ is_at [] at index = false
 is_at (cell ∷ others) zero index = cell.index == index
 is_at (cell ∷ others) (suc at) index = is_at others at index
 
--- of all ready columns the one of a place, with another state in a cell
+-- of all ready columns the one of a place, changed
+abbrev pub changed_at : Place → (ReadyValue → ReadyValue) → ReadyValue → ReadyValue
+changed_at place f ready = if eq_by_cmp place_cmp ready.place place then f ready else ready
+
+-- with another state in a cell
 abbrev pub set_at : Place → ℕ → ℕ → ReadyValue → ReadyValue
-set_at place i state ready = if eq_by_cmp place_cmp ready.place place then
-    set_cell ready i state else ready
+set_at place i state ready = changed_at place (λ r. set_cell r i state) ready

@@ -13,6 +13,11 @@ use Rattle.mc_land.specs.Shed.{View, is_seen}
 abbrev pub is_kept : List View → ReadyValue → Bool
 is_kept views ready = not (changes_in ready == 0) || is_seen views ready.place
 
+-- so many columns, from the first on, stay
+abbrev pub AreKept : List View → List ReadyValue → ℕ → Type 0
+AreKept views columns n = (k : ℕ) (d : ReadyValue) → k < n →
+    is_kept views (slice_index_or columns k d) ≡ true
+
 -- a column that stays is there as it was, and no other is there
 pub record IsShed (views : List View) (old new : List ReadyValue) : Type 0 where
   pub none : (q : Place) → find place_cmp q (placed old) ≡ None → find place_cmp q (placed new) ≡
@@ -22,7 +27,8 @@ pub record IsShed (views : List View) (old new : List ReadyValue) : Type 0 where
   pub gone : (q : Place) (ready : ReadyValue) → find place_cmp q (placed old) ≡ Some ready →
       is_kept views ready ≡ false → find place_cmp q (placed new) ≡ None
 
--- the columns from i on stay, and each that stays is there as it was
+-- the columns from i on stay, each that stays is there as it was, and those before i were not looked
+-- at
 pub record AreShed (views : List View) (old new : List ReadyValue) (i : ℕ) : Type 0 where
   pub within : i ≤ length new
   pub none : (q : Place) → find place_cmp q (placed old) ≡ None → find place_cmp q (placed new) ≡
@@ -33,6 +39,7 @@ pub record AreShed (views : List View) (old new : List ReadyValue) (i : ℕ) : T
       (find place_cmp q (placed new) ≡ Some r) ⊎ (find place_cmp q (placed new) ≡ None)
   pub stay : (k : ℕ) (d : ReadyValue) → i ≤ k → k < length new →
       is_kept views (slice_index_or new k d) ≡ true
+  pub before : (k : ℕ) (d : ReadyValue) → k < i → slice_index_or new k d ≡ slice_index_or old k d
 
 -- the column at i was taken away, and no other
 pub record IsTakenAway (old new : List ReadyValue) (i : ℕ) (d : ReadyValue) : Type 0 where

@@ -12,11 +12,14 @@ ghost use Rattle.mc_land.specs.KeptLand.{placed, IsIndexed};
 ghost use Rattle.mc_land.specs.Land.{block, column_of, dirty_in, new_land, settled_land};
 ghost use Rattle.mc_land.specs.Land.{with_ready};
 ghost use Rattle.mc_land.specs.Ready.{settled_ready};
+ghost use Rattle.mc_land.specs.Touched.{AreTouched};
+ghost use Rattle.mc_land.specs.Upkeep.{AreKnown, settled_at};
 
 mod chests;
 mod setting;
 mod shedding;
 mod sums;
+mod upkeep;
 
 use crate::growing::grow;
 use crate::places::{Place, height_of, place_of, x_inside, z_inside};
@@ -30,9 +33,10 @@ use mc_fields::Cell;
 use mc_slots::Chest;
 pub use setting::{CHEST, is_chest};
 use std::alloc::Global;
-use std::collections::BTreeMap;
+use std::collections::{BTreeMap, BTreeSet};
 use std::marker::Model;
 use std::sync::ledger::Ledger;
+use upkeep::Upkeep;
 
 /// An endless world of cells: a terrain, and what was changed of it.
 ///
@@ -47,12 +51,15 @@ pub struct Land {
     index: BTreeMap<Place, usize>,
     /// By column, and by index in that.
     chests: BTreeMap<(Place, u16), Chest>,
+    /// What is kept for speed alone.
+    upkeep: Upkeep,
 }
 
 impl Model for Land {
     ghost use Rattle.mc_land.specs.Land.{LandValue};
     ghost use Rattle.mc_land.specs.LandCode.{coded_land};
     ghost use Rattle.mc_land.specs.KeptLand.{kept_land, placed, IsIndexed, IsKeptLand};
+    ghost use Rattle.mc_land.specs.Upkeep.{IsUpkeep};
 
     ghost Value = { LandValue };
 
@@ -61,7 +68,8 @@ impl Model for Land {
     ghost view = { λ land. kept_land land.terrain (placed land.columns.items) land.chests.entries };
 
     ghost invariant = { λ land. IsKeptLand land.terrain (placed land.columns.items)
-        land.chests.entries × IsIndexed land.columns.items land.index.entries };
+        land.chests.entries × IsIndexed land.columns.items land.index.entries
+        × IsUpkeep land.columns.items land.upkeep };
 }
 
 impl Land {
@@ -74,6 +82,7 @@ impl Land {
             columns: Vec::new(alloc),
             index: BTreeMap::new(alloc),
             chests: BTreeMap::new(alloc),
+            upkeep: Upkeep::new(alloc),
         }
     }
 
@@ -149,6 +158,15 @@ impl Land {
         }
     }
 
+    /// The columns in which a cell is dirty, by rising place. It looks at no column.
+    pub fn touched(&self) -> &BTreeSet<(i32, i32)>
+        ensures { AreTouched self.now result.now.keys }
+    {
+        // The places rise.
+        let _many = self.upkeep.touched.len();
+        &self.upkeep.touched
+    }
+
     /// Makes a column ready. A ready column stays as it is.
     pub fn ready(&mut self, cx: i32, cz: i32) -> Result<(), NoMemory>
         requires { IsPlace (cx, cz) }
@@ -178,7 +196,8 @@ impl Land {
     pub fn settle(&mut self)
         ensures { self.new ≡ settled_land self.old }
     {
-        settle_all(&mut self.columns);
+        settle_touched(&mut self.columns, &self.index, &self.upkeep.touched);
+        self.upkeep.touched.clear();
     }
 }
 
@@ -200,18 +219,35 @@ pub(crate) fn push_ready(
     Ok(())
 }
 
-/// Settles each column.
-fn settle_all(columns: &mut Vec<Ready>)
+/// Settles the columns of places, which are all in which a cell is dirty.
+fn settle_touched(
+    columns: &mut Vec<Ready>,
+    index: &BTreeMap<Place, usize>,
+    touched: &BTreeSet<Place>,
+)
+    requires indexed { IsIndexed columns.old.items index.now.entries }
+    requires known { AreKnown columns.old.items touched.now.keys }
     ensures { columns.new.items ≡ map settled_ready columns.old.items }
 {
-    for i in 0..columns.as_slice().len() {
+    for place in touched {
+        settle_at(columns, index, place);
+    }
+}
+
+/// Settles the column of a place, if it is ready.
+fn settle_at(columns: &mut Vec<Ready>, index: &BTreeMap<Place, usize>, place: &Place)
+    requires indexed { IsIndexed columns.old.items index.now.entries }
+    ensures settled { columns.new.items ≡ map (settled_at place.now) columns.old.items }
+    ensures indexed { IsIndexed columns.new.items index.now.entries }
+{
+    if let Some(i) = index_at(index, place) {
         let ready = &mut columns[i];
         ready.settle();
     }
 }
 
 /// The ready column of a place.
-fn ready_at<'a>(
+pub(crate) fn ready_at<'a>(
     columns: &'a Vec<Ready>,
     index: &BTreeMap<Place, usize>,
     place: &Place,

@@ -1,5 +1,5 @@
 ghost use Rattle.std.specs.Prelude.{◌≡◌, ◌++◌, ◌<◌, ◌≤◌, ◌==◌, Bool, not, true, false, nat_lt, ℕ};
-ghost use Rattle.std.specs.Prelude.{List, OnOk, OnErr, length, slice_index};
+ghost use Rattle.std.specs.Prelude.{List, OnOk, OnErr, Some, length, slice_index};
 ghost use Rattle.std.specs.Vec.{vec_len, vec_capacity};
 ghost use Rattle.std.specs.List.Sorted.{IsPartitionPoint, IsPartitionedBy};
 ghost use Rattle.mc_column.specs.Cells.{HasSizes, cell_index};
@@ -11,6 +11,7 @@ ghost use Rattle.mc_land.specs.Sums.{changes_in};
 ghost use Rattle.mc_land.specs.KeptReady.{bit_of};
 ghost use Rattle.mc_land.specs.Ready.{set_cell, settled_ready, touched_cells};
 ghost use Rattle.mc_land.specs.ReadyCode.{IsAround, is_at, one_if};
+ghost use Rattle.mc_land.specs.Upkeep.{IsWhole, is_touched};
 
 use crate::growing::block_at;
 use crate::places::Place;
@@ -104,6 +105,14 @@ impl Ready {
         ensures { result.now ≡ touched_cells self.now.settled.states self.now.present.states }
     {
         self.touched.as_slice()
+    }
+
+    /// Whether a cell differs from that at the last settling.
+    pub(crate) fn is_touched(&self) -> bool
+        ensures is { result ≡ is_touched (Some self.now) }
+        ensures whole { IsWhole self.now }
+    {
+        !self.touched.is_empty()
     }
 
     /// How many cells are not the terrain's. It looks at none.

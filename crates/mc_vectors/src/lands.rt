@@ -96,11 +96,12 @@ enum Call {
     Fill,
     Ready,
     Dirty,
+    Touched,
     Column,
 }
 
 /// The calls by their words.
-const CALLS: [(&str, Call); 12] = [
+const CALLS: [(&str, Call); 13] = [
     ("new", Call::New),
     ("settle", Call::Settle),
     ("shed", Call::Shed),
@@ -112,6 +113,7 @@ const CALLS: [(&str, Call); 12] = [
     ("fill", Call::Fill),
     ("ready", Call::Ready),
     ("dirty", Call::Dirty),
+    ("touched", Call::Touched),
     ("column", Call::Column),
 ];
 
@@ -133,7 +135,7 @@ fn answer_call(call: Call, ground: &mut Ground, words: &mut Words<'_>, answer: &
     match call {
         Call::New => renew(ground, words),
         Call::Settle => ground.land.settle(),
-        Call::Shed => shed(&mut ground.land, words),
+        Call::Shed => shed(&mut ground.land, words, answer),
         Call::Edited => answer.word(ground.land.edited()),
         Call::Stored => answer.word(ground.land.stored()),
         Call::Set => set(&mut ground.land, words, answer),
@@ -142,6 +144,7 @@ fn answer_call(call: Call, ground: &mut Ground, words: &mut Words<'_>, answer: &
         Call::Fill => fill(&mut ground.land, words),
         Call::Ready => ready(&mut ground.land, words, answer),
         Call::Dirty => dirty(&ground.land, words, answer),
+        Call::Touched => touched(&ground.land, answer),
         Call::Column => column(ground, words, answer),
     }
 }
@@ -165,10 +168,14 @@ fn set(land: &mut Land, words: &mut Words<'_>, answer: &mut Answer) {
 
 /// Settles the land, and makes the columns not ready that are as the terrain has them and that no
 /// view reaches. The view is the next words: its middle column, and how many columns it reaches.
-fn shed(land: &mut Land, words: &mut Words<'_>) {
+fn shed(land: &mut Land, words: &mut Words<'_>, answer: &mut Answer) {
     let view = (words.number(), words.number(), words.number());
+    let mut views = Vec::new(words.alloc);
+    if views.push(view).is_err() {
+        return answer.lose();
+    }
     land.settle();
-    land.shed(&[view]);
+    land.shed(views);
 }
 
 /// Puts the state of a cell.
@@ -237,6 +244,17 @@ fn dirty(land: &Land, words: &mut Words<'_>, answer: &mut Answer) {
         Some(place) => put_dirty(land.dirty(place.0, place.1), answer),
         None => words.fail(),
     }
+}
+
+/// Puts the columns in which a cell is dirty.
+fn touched(land: &Land, answer: &mut Answer) {
+    answer.word('[');
+    for place in land.touched() {
+        answer.word(place.0);
+        answer.put(':');
+        answer.put(place.1);
+    }
+    answer.put(']');
 }
 
 /// Puts how a column differs from the terrain.

@@ -6,9 +6,11 @@ ghost use Rattle.mc_land.specs.Places.{IsPlace, is_inside, key_of};
 ghost use Rattle.mc_land.specs.KeptLand.{IsIndexed, IsPut};
 ghost use Rattle.mc_land.specs.Ready.{ReadyValue, set_cell};
 ghost use Rattle.mc_land.specs.Land.{block, is_chest, with_block};
+ghost use Rattle.mc_land.specs.Upkeep.{IsUpkeep};
 
 use crate::fault::LandFault;
 use crate::growing::grow;
+use crate::land::upkeep::{Upkeep, keep_touched};
 use crate::land::{Land, index_at, push_ready};
 use crate::places::{Place, height_of, is_inside, key_of, place_of, x_inside, z_inside};
 use crate::ready::Ready;
@@ -83,6 +85,7 @@ impl Land {
             &self.terrain,
             &mut self.columns,
             &mut self.index,
+            &mut self.upkeep,
             cell,
             state,
         ) {
@@ -106,6 +109,7 @@ impl Land {
             &self.terrain,
             &mut self.columns,
             &mut self.index,
+            &mut self.upkeep,
             cell,
             state,
         )?;
@@ -126,6 +130,7 @@ impl Land {
             &self.terrain,
             &mut self.columns,
             &mut self.index,
+            &mut self.upkeep,
             cell,
             state,
         )?;
@@ -144,8 +149,36 @@ pub fn is_chest(state: u16) -> bool
 }
 
 /// Puts a state into a cell of a column, which is made ready where it is not. Without memory all is
-/// as before.
+/// as before, but what is kept for speed alone.
 fn put_state(
+    terrain: &Terrain,
+    columns: &mut Vec<Ready>,
+    index: &mut BTreeMap<Place, usize>,
+    upkeep: &mut Upkeep,
+    cell: &Cell,
+    state: u16,
+) -> Result<(), NoMemory>
+    requires inside { is_inside cell.now.x cell.now.y cell.now.z ≡ true }
+    requires indexed { IsIndexed columns.old.items index.old.entries }
+    requires upkeep { IsUpkeep columns.old.items upkeep.old }
+    ensures indexed { IsIndexed columns.new.items index.new.entries }
+    ensures upkeep { IsUpkeep columns.new.items upkeep.new }
+    ensures ok { OnOk result (IsPut terrain.now (key_of cell.now.x (unsigned_abs cell.now.y)
+        cell.now.z).0 (key_of cell.now.x (unsigned_abs cell.now.y) cell.now.z).1 state
+        columns.old.items columns.new.items) }
+    ensures err { OnErr result (columns.new.items ≡ columns.old.items) }
+{
+    let place = place_of(cell);
+    upkeep.staying = 0;
+    upkeep.touched.insert(place)?;
+    let done = put_cell(terrain, columns, index, cell, state);
+    keep_touched(columns, index, &mut upkeep.touched, &place);
+    done
+}
+
+/// Puts a state into a cell of a column, which is made ready where it is not. Without memory all is
+/// as before.
+fn put_cell(
     terrain: &Terrain,
     columns: &mut Vec<Ready>,
     index: &mut BTreeMap<Place, usize>,

@@ -2,11 +2,12 @@ ghost use Rattle.std.specs.Prelude.{◌≡◌, ◌+◌, ◌<◌, ◌≤◌, ℕ,
 ghost use Rattle.std.specs.Prelude.{if◌then◌else◌};
 ghost use Rattle.std.specs.Ordering.{eq_by_cmp};
 ghost use Rattle.std.specs.FinMap.{find};
+ghost use Rattle.std.specs.List.{position};
 ghost use Rattle.std.specs.Option.{option_map};
 ghost use Rattle.mc_land.specs.Places.{Place, place_cmp};
 ghost use Rattle.mc_land.specs.KeptLand.{IsIndexed};
 ghost use Rattle.mc_land.specs.Ready.{ReadyValue};
-ghost use Rattle.mc_land.specs.ShedCode.{AreShed, IsShed, IsTakenAway, is_kept};
+ghost use Rattle.mc_land.specs.ShedCode.{AreKept, AreShed, IsShed, IsTakenAway, is_kept};
 ghost use Rattle.mc_land.specs.Shed.{IsSettled, View, is_in_view, is_seen, shed_land};
 
 use super::Land;
@@ -17,27 +18,38 @@ use std::collections::BTreeMap;
 impl Land {
     /// Makes those columns not ready all of whose cells are as the terrain has them and that no
     /// view reaches. A view is the numbers of its middle column, and how many columns it reaches
-    /// on each axis. It looks at no cell and takes no memory.
-    pub fn shed(&mut self, views: &[(i32, i32, u8)])
+    /// on each axis. It looks at no cell and takes no memory, and where the views are those of the
+    /// last call and no cell was set since, it looks at no column that stayed then.
+    pub fn shed(&mut self, views: Vec<(i32, i32, u8)>)
         requires { IsSettled self.old }
-        ensures { self.new ≡ shed_land self.old views.now }
+        ensures { self.new ≡ shed_land self.old views.items }
     {
-        shed_columns(&mut self.columns, &mut self.index, views);
+        let seen = views.as_slice();
+        let from = self.upkeep.known_to_stay(seen);
+        shed_columns(&mut self.columns, &mut self.index, seen, from);
+        self.upkeep.staying = self.columns.as_slice().len();
+        self.upkeep.seen = views;
     }
 }
 
-/// Takes away the columns that do not stay ready, from the last one down.
+/// Takes away the columns from `from` on that do not stay ready, from the last one down. Those
+/// before it are known to stay.
 fn shed_columns(
     columns: &mut Vec<Ready>,
     index: &mut BTreeMap<Place, usize>,
     views: &[(i32, i32, u8)],
+    from: usize,
 )
     requires indexed { IsIndexed columns.old.items index.old.entries }
+    requires within { from ≤ length columns.old.items }
+    requires known { AreKept views.now columns.old.items from }
     ensures indexed { IsIndexed columns.new.items index.new.entries }
     ensures shed { IsShed views.now columns.old.items columns.new.items }
+    ensures kept { AreKept views.now columns.new.items (length columns.new.items) }
 {
-    for i in (0..columns.as_slice().len()).rev() {
-        shed_one(columns, index, i, views);
+    let mut near = 0;
+    for i in (from..columns.as_slice().len()).rev() {
+        shed_one(columns, index, i, views, &mut near);
     }
 }
 
@@ -47,6 +59,7 @@ fn shed_one(
     index: &mut BTreeMap<Place, usize>,
     i: usize,
     views: &[(i32, i32, u8)],
+    near: &mut usize,
 )
     requires there { i < length columns.old.items }
     requires indexed { IsIndexed columns.old.items index.old.entries }
@@ -54,23 +67,39 @@ fn shed_one(
     ensures step { (start : List ReadyValue) → AreShed views.now start columns.old.items (i + 1) →
         AreShed views.now start columns.new.items i }
 {
-    if !is_kept(&columns[i], views) {
+    if !is_kept(&columns[i], views, near) {
         remove_at(columns, index, i);
     }
 }
 
 /// Whether a column stays ready: a cell of it is an edit, or a view reaches it.
-fn is_kept(ready: &Ready, views: &[(i32, i32, u8)]) -> bool
+fn is_kept(ready: &Ready, views: &[(i32, i32, u8)], near: &mut usize) -> bool
     ensures { result ≡ is_kept views.now ready.now }
 {
-    ready.edits() != 0 || is_seen(ready.place(), views)
+    ready.edits() != 0 || is_seen(ready.place(), views, near)
 }
 
-/// Whether one of some views reaches a column.
-fn is_seen(place: &Place, views: &[(i32, i32, u8)]) -> bool
+/// Whether one of some views reaches a column. The one that reached another is asked first.
+fn is_seen(place: &Place, views: &[(i32, i32, u8)], near: &mut usize) -> bool
     ensures { result ≡ is_seen views.now place.now }
 {
-    views.iter().any(|view| is_in_view(place, view))
+    if *near < views.len() && is_in_view(place, &views[*near]) {
+        return true;
+    }
+    match reaching(place, views) {
+        Some(at) => {
+            *near = at;
+            true
+        }
+        None => false,
+    }
+}
+
+/// The first of some views that reaches a column.
+fn reaching(place: &Place, views: &[(i32, i32, u8)]) -> Option<usize>
+    ensures { result ≡ position (λ view. is_in_view (view.0, view.1) view.2 place.now) views.now }
+{
+    views.iter().position(|view| is_in_view(place, view))
 }
 
 /// Whether a view reaches a column.

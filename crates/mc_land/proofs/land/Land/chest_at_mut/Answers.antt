@@ -14,11 +14,13 @@ invariant_of-self-lent c = λ _. (
     kept_piles _ _ c.self.inside.chests.entries _ c.self.invariant.0
         (c.get_mut.follows.holds w).1,
     c.self.invariant.1,
+    c.self.invariant.2,
   ),
   (
     kept_piles _ _ c.self.inside.chests.entries _ c.self.invariant.0
         (λ i. keys (c.get_mut.follows.holds-at-none i)),
     c.self.invariant.1,
+    c.self.invariant.2,
   ),
 )
 

@@ -13,6 +13,7 @@ invariant_of-self-2 c =
           c.self.inside.chests.entries _ c.args.cell.now.x c.args.cell.now.y c.args.cell.now.z
           c.args.state c.requires.inside c.self.invariant.0 c.in_ok-put_state.ensures.ok are).1,
       c.put_state.ensures.indexed,
+      c.put_state.ensures.upkeep,
     )
 
 pub returns-clause-ok : goal.returns-clause-ok

@@ -17,6 +17,7 @@ invariant_of-self-in-Ok c =
           c.self.inside.chests.entries _ c.args.cell.now.x c.args.cell.now.y c.args.cell.now.z
           c.args.state c.requires.inside c.self.invariant.0 c.in-Ok.ensures.ok are).1,
       c.put_state.ensures.indexed,
+      c.put_state.ensures.upkeep,
     )
 
 pub invariant_of-self-in-Err : goal.invariant_of-self-in-Err
@@ -34,6 +35,7 @@ invariant_of-self-in-Err c =
           c.self.inside.chests.entries c.remove-chest.new.self.entries c.in-Err.ensures.err
           c.self.invariant.0 c.remove-chest.ensures.ordered (back_again _ _ _ _ none made back)).1,
       c.put_state.ensures.indexed,
+      c.put_state.ensures.upkeep,
     )
 
 pub returns-in-Ok-clause-ok : goal.returns-in-Ok-clause-ok

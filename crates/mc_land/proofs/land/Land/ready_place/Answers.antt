@@ -2,6 +2,7 @@ use Rattle.std.proofs.Common.{◌∙◌, sym}
 use Rattle.mc_land.proofs.ChangeFacts.{ready_stays, push_land, push_keeps, ready_there, not_there}
 use Rattle.mc_land.proofs.ChangeFacts.{fresh_new}
 use Rattle.mc_land.proofs.KeptLandFacts.{found_unindexed}
+use Rattle.mc_land.proofs.UpkeepFacts.{upkeep_push}
 use Rattle.mc_land.proofs.land.Land.ready_place.Goals as goal
 
 pub returns-then-is_some-clause-ok : goal.returns-then-is_some-clause-ok
@@ -20,6 +21,9 @@ invariant_of-self-2 c =
           (fresh_new _ _ _ _ c.requires c.in_ok-column.ensures c.new-ready.ensures)
           c.self.invariant.0 none,
       c.push_ready.ensures.indexed,
+      upkeep_push _ c.args.place.now c.self.inside.columns.items _ _ _
+          c.in_ok-push_ready.ensures.ok (fresh_new _ _ _ _ c.requires c.in_ok-column.ensures
+          c.new-ready.ensures) none c.self.invariant.2,
     )
 
 pub returns-clause-ok : goal.returns-clause-ok

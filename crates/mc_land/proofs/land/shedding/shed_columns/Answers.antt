@@ -1,6 +1,6 @@
 use Rattle.std.proofs.Common.{◌≡◌, ◌+◌, ◌-◌, subst, ℕ, arith}
 use Rattle.mc_land.specs.ShedCode.{AreShed}
-use Rattle.mc_land.proofs.ShedFacts.{shed_all}
+use Rattle.mc_land.proofs.ShedFacts.{all_kept, shed_all}
 use Rattle.mc_land.proofs.land.shedding.shed_columns.Goals as goal
 
 pub loop-i-preserved : goal.loop-i-preserved
@@ -13,5 +13,10 @@ loop-i-preserved c =
     )
 
 pub returns-clause-shed : goal.returns-clause-shed
-returns-clause-shed c = shed_all _ _ _ _ c.loop-i.i c.loop-i-test.false c.loop-i.invariant.1
+returns-clause-shed c = shed_all _ _ _ _ c.loop-i.i c.loop-i.invariant.1 (all_kept _ _ _
+    c.loop-i.i c.args.from c.loop-i-test.false c.loop-i.invariant.1 c.requires.known)
     c.loop-i.invariant.0
+
+pub returns-clause-kept : goal.returns-clause-kept
+returns-clause-kept c = all_kept _ _ _ c.loop-i.i c.args.from c.loop-i-test.false
+    c.loop-i.invariant.1 c.requires.known
