@@ -2,9 +2,9 @@
 use Rattle.std.proofs.Common.{◌≡◌, ℕ, suc, ◌+◌, ◌-◌, ◌≤◌, ◌<◌, List, [], ◌∷◌, ◌++◌, map}
 use Rattle.std.proofs.Common.{length, get_or, set, refl, sym, subst, ap, ◌∙◌, arith}
 use Rattle.std.proofs.lemmas.Bool.Decides.{nat_tests}
-use Rattle.std.specs.Prelude.{◌≤ℤ◌, ◌<ℤ◌, ◌==◌, ◌&&◌, Bool, true, false, Result, Ok, is_ok}
-use Rattle.std.specs.Prelude.{None, IfSome, if◌then◌else◌}
-use Rattle.std.specs.List.{remove, All}
+use Rattle.std.specs.Prelude.{◌≤ℤ◌, ◌<ℤ◌, ◌==◌, ◌&&◌, not, Bool, true, false, Result, Ok}
+use Rattle.std.specs.Prelude.{is_ok, None, IfSome, if◌then◌else◌}
+use Rattle.std.specs.List.{filter, remove, All}
 use Rattle.std.proofs.lemmas.Grind.{common_steps}
 use Rattle.std.proofs.lemmas.Int.{ints}
 use Rattle.std.proofs.lemmas.List.{length-append}
@@ -17,7 +17,7 @@ use Rattle.mc_entities.specs.declared.entity.TheConstants.{DROPPED_MAX, EID_MAX}
 use Rattle.mc_entities.specs.Kinds.{IsKind, is_dropped, are_alike}
 use Rattle.mc_entities.specs.declared.mind.Move.{Move}
 use Rattle.mc_entities.specs.declared.entity.EntityKind.{EntityKind}
-use Rattle.mc_entities.specs.Numbers.{without, Rise}
+use Rattle.mc_entities.specs.Numbers.{is_among, without, without_all, Rise}
 use Rattle.mc_entities.specs.Folk.{dropped_in, eid_of, told_eid, entity_of, with_entity, removed}
 use Rattle.mc_entities.specs.Folk.{FolkState, FolkValue, after_tick}
 use Rattle.mc_entities.specs.Kept.{IsKept, IsPlaced, AreKinds, places, one_if}
@@ -180,6 +180,46 @@ pub forgotten_state : (w : FolkValue) (state : FolkState) (n : ℤ) (left : List
     state ≡ w.state → entity_of n w.state ≡ None →
     left ≡ without told_eid n state.told → record state { told = left } ≡ removed n w.state
 forgotten_state w state n left e none f = grind (arith, nat_tests, without_none)
+
+-- ---- several are taken out
+
+-- no more are left than there were
+pub count_left : {X : Type 0} (p q : X → Bool) (xs : List X) → length (filter p (filter q xs)) ≤
+    length (filter p xs)
+count_left p q [] = grind (arith, nat_tests)
+count_left p q (x ∷ xs) = grind (arith, nat_tests, count_left p q xs)
+
+pub length_left : {X : Type 0} (q : X → Bool) (xs : List X) → length (filter q xs) ≤ length xs
+length_left q [] = grind (arith, nat_tests)
+length_left q (x ∷ xs) = grind (arith, nat_tests, length_left q xs)
+
+pub kept_all : (es now : List Entity) (told left : List (ℤ × Spot))
+    (cap room given dropped count : ℕ) (eids : List ℤ) → IsKept es told cap given dropped →
+    now ≡ without_all eid_of eids es → left ≡ without_all told_eid eids told → room ≡ cap →
+    count ≡ dropped_in now → IsKept now left room given count
+kept_all es now told left cap room given dropped count eids k e f same c = record {
+  rise = subst (λ (xs : List Entity). Rise eid_of (pos 0) xs (pos given)) (sym e)
+      (rise_filter eid_of _ (pos 0) (pos given) es k.rise);
+  told_rise = subst (λ (xs : List (ℤ × Spot)). Rise told_eid (pos 0) xs (pos given)) (sym f)
+      (rise_filter told_eid _ (pos 0) (pos given) told k.told_rise);
+  kinds = subst (λ (xs : List Entity). AreKinds xs) (sym e)
+      (All-filter _ (λ (x : Entity). IsKind x.kind) es k.kinds);
+  numbers = k.numbers;
+  counted = c;
+  few = let le = count_left (λ (x : Entity). is_dropped x.kind)
+      (λ x. not (is_among eids x.eid)) es in
+      let now_is = ap dropped_in e in omega (arith, le, now_is, c, k.counted, k.few);
+  places = let le = length_left (λ (x : Entity). not (is_among eids x.eid)) es in
+      let now_is = ap length e in omega (arith, le, now_is, same, k.places);
+}
+
+-- and places are as many at least
+pub places_left : (es now : List Entity) (cap room most more : ℕ) (eids : List ℤ) →
+    now ≡ without_all eid_of eids es → room ≡ cap → more ≡ most →
+    places es cap most ≤ places now room more
+places_left es now cap room most more eids e same same' =
+    let le = length_left (λ (x : Entity). not (is_among eids x.eid)) es in
+    let now_is = ap length e in rw (same, same') (omega (arith, le, now_is))
 
 -- all spots are kept anew
 pub kept_settled : (es : List Entity) (told left : List (ℤ × Spot)) (cap room given dropped : ℕ) →

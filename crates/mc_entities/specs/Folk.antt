@@ -9,7 +9,7 @@ use Rattle.mc_entities.specs.declared.entity.EntityKind.{EntityKind}
 use Rattle.mc_entities.specs.declared.entity.TheConstants.{DROPPED_MAX, EID_MAX}
 use Rattle.mc_entities.specs.declared.mind.Move.{Move}
 use Rattle.mc_entities.specs.Kinds.{is_dropped, is_mob}
-use Rattle.mc_entities.specs.Numbers.{numbered, changed, without}
+use Rattle.mc_entities.specs.Numbers.{numbered, changed, without, without_all}
 use Rattle.mc_entities.specs.Shift.{shifted_spot}
 use Rattle.mc_entities.specs.Plans.{move_at}
 
@@ -82,6 +82,13 @@ abbrev pub removed : ℤ → FolkState → FolkState
 removed eid state = record state {
   entities = without eid_of eid state.entities;
   told = without told_eid eid state.told;
+}
+
+-- those of some numbers
+abbrev pub removed_all : List ℤ → FolkState → FolkState
+removed_all eids state = record state {
+  entities = without_all eid_of eids state.entities;
+  told = without_all told_eid eids state.told;
 }
 
 abbrev pub with_entity : ℤ → (Entity → Entity) → FolkState → FolkState

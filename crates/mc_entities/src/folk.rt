@@ -9,19 +9,23 @@ ghost use Rattle.mc_entities.specs.Kinds.{IsKind, are_alike, is_dropped};
 ghost use Rattle.mc_entities.specs.Numbers.{Rise};
 ghost use Rattle.mc_entities.specs.Plans.{asked};
 ghost use Rattle.mc_entities.specs.Folk.{HasRoom, dropped_in, eid_of, entity_of, is_full, is_spent};
-ghost use Rattle.mc_entities.specs.Folk.{mobs_in, new_state, placed, removed, room_of, settled};
+ghost use Rattle.mc_entities.specs.Folk.{mobs_in, new_state, placed, removed, removed_all};
+ghost use Rattle.mc_entities.specs.Folk.{room_of, settled};
 ghost use Rattle.mc_entities.specs.Folk.{shifted, spawned, ticked, told_of, with_kind};
 ghost use Rattle.mc_entities.specs.Kept.{AreKinds, IsPlaced, one_if};
 
 use crate::entity::{DROPPED_MAX, EID_MAX, Entity, EntityKind};
 use crate::fault::FolkFault;
 use crate::mind::{Mind, Move};
-use crate::places::{forget, place_of, settle_told, told_place};
+use crate::places::{
+    dropped_among, forget, forget_all, leave_out, place_of, settle_told, told_place,
+};
 use crate::shifting::shift_spot;
 use crate::ticking::tick_all;
 use mc_bytes::NoMemory;
 use mc_fields::Spot;
 use std::alloc::Global;
+use std::collections::BTreeSet;
 use std::marker::Model;
 
 /// All entities of a world, by rising number.
@@ -183,6 +187,16 @@ impl Folk {
         let gone = self.entities.remove(at);
         self.dropped -= dropped_count(&gone.kind);
         Some(gone)
+    }
+
+    /// Takes the entities of numbers out. All entities are gone through once, however many go.
+    pub fn remove_all(&mut self, eids: &BTreeSet<i32>)
+        ensures state { self.new.state ≡ removed_all eids.now.keys self.old.state }
+        ensures keeps { self.old.reserve ≤ self.new.reserve }
+    {
+        leave_out(&mut self.entities, eids);
+        forget_all(&mut self.told, eids);
+        self.dropped = dropped_among(self.entities.as_slice()) as u32;
     }
 
     /// Puts the entity of a number at a spot. False exactly where there is none.
