@@ -26,10 +26,16 @@ impl Model for Columns {
 }
 
 impl Columns {
-    /// Those of a view that another lacks.
+    /// Those of a view that another lacks. Nothing is gone through where both are the same.
     pub fn new(view: &ViewSet, other: &ViewSet) -> Columns
         ensures { result ≡ lacking view.now other.now }
     {
+        if view == other {
+            return Columns {
+                square: Square::empty(),
+                other: None,
+            };
+        }
         Columns {
             square: Square::of(view),
             other: Some(*other),

@@ -1,4 +1,4 @@
-ghost use Rattle.std.specs.Prelude.{◌≡◌, ◌≤◌};
+ghost use Rattle.std.specs.Prelude.{◌≡◌, ◌≤◌, []};
 ghost use Rattle.std.specs.Iterator.{YieldsFirst};
 ghost use lib.IntN.{pos, negsuc, ◌+ℤ◌, ◌-ℤ◌};
 ghost use lib.Signed.{◌≤ℤ◌};
@@ -65,6 +65,19 @@ impl Square {
             row: 0,
             left: u32::from(view.d) * 2,
             at: 0,
+        }
+    }
+
+    /// No column.
+    pub fn empty() -> Square
+        ensures { result ≡ [] }
+    {
+        Square {
+            corner: Corner { west: 0, north: 0 },
+            side: 1,
+            row: 0,
+            left: 0,
+            at: 1,
         }
     }
 
