@@ -16,6 +16,9 @@ pair_of entry = (entry.eid, (entry.spot, entry.pile))
 abbrev pub pairs_of : List Entry → List (ℤ × (Spot × Pile))
 pairs_of entries = map pair_of entries
 
+abbrev pub numbers_of : List Entry → List ℤ
+numbers_of entries = map (λ (pair : ℤ × (Spot × Pile)). pair.0) (pairs_of entries)
+
 abbrev pub IsRising : List Entry → Type 0
 IsRising entries = T (is_sorted int_cmp (pairs_of entries))
 

@@ -43,6 +43,7 @@ impl<'a> Looks<'a> {
     }
 
     /// What the client was told of an entity, None where it was not.
+    #[inline]
     pub fn find(&mut self, eid: i32) -> Option<(Spot, Pile)>
         ensures same { self.new ≡ self.old }
         ensures is { result ≡ map.get self.old eid }

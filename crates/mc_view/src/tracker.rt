@@ -5,7 +5,8 @@ ghost use Rattle.std.specs.List.{filter};
 ghost use lib.IntN.{ℤ};
 ghost use Rattle.std.specs.FinMap as map;
 ghost use Rattle.mc_view.specs.Forms.{moves_of};
-ghost use Rattle.mc_view.specs.KeptTold.{IsAbove, IsAt, IsBelow, IsGap, IsRising, told_of};
+ghost use Rattle.mc_view.specs.KeptTold.{IsAbove, IsAt, IsBelow, IsGap, IsRising, numbers_of};
+ghost use Rattle.mc_view.specs.KeptTold.{told_of};
 
 use crate::forms::Moves;
 use crate::looks::Looks;
@@ -108,7 +109,18 @@ impl Tracker {
             self.entries.push(entry)?;
             return Ok(());
         }
-        match place_of(self.entries.as_slice(), eid) {
+        self.put_among(entry)
+    }
+
+    /// Keeps an entry in the place of that of its number, or else among the others. Out of memory,
+    /// the tracker is as before.
+    #[inline(never)]
+    fn put_among(&mut self, entry: Entry) -> Result<(), NoMemory>
+        ensures ok { OnOk result
+            (self.new ≡ map.insert self.old entry.eid (entry.spot, entry.pile)) }
+        ensures err { OnErr result (self.new ≡ self.old) }
+    {
+        match place_of(self.entries.as_slice(), entry.eid) {
             Ok(at) => {
                 self.entries[at] = entry;
                 Ok(())
@@ -128,8 +140,19 @@ impl Tracker {
     }
 
     /// The numbers of those that this tracker knows and another does not. Each of the two is gone
-    /// through once.
+    /// through once. Where both know the same numbers, nothing but these is looked at.
     pub fn lost(&self, alloc: Global, now: &Tracker) -> Result<Vec<i32>, NoMemory>
+        ensures { IfOk result (λ eids. eids.items
+            ≡ filter (λ (eid : ℤ). not (map.contains_key now.now eid)) (map.keys self.now)) }
+    {
+        if are_same_numbers(self.entries.as_slice(), now.entries.as_slice()) {
+            return Ok(Vec::new(alloc));
+        }
+        self.lost_among(alloc, now)
+    }
+
+    /// The numbers of those that this tracker knows and another does not, looked up one by one.
+    fn lost_among(&self, alloc: Global, now: &Tracker) -> Result<Vec<i32>, NoMemory>
         ensures { IfOk result (λ eids. eids.items
             ≡ filter (λ (eid : ℤ). not (map.contains_key now.now eid)) (map.keys self.now)) }
     {
@@ -185,7 +208,23 @@ impl Tracker {
     }
 }
 
+/// Whether two lists of entries have the same numbers.
+fn are_same_numbers(entries: &[Entry], others: &[Entry]) -> bool
+    ensures { IsTrue result → numbers_of entries.now ≡ numbers_of others.now }
+{
+    if entries.len() != others.len() {
+        return false;
+    }
+    for i in 0..entries.len() {
+        if entries[i].eid != others[i].eid {
+            return false;
+        }
+    }
+    true
+}
+
 /// Where a number stands, or else where it would go.
+#[inline(never)]
 fn place_of(entries: &[Entry], eid: i32) -> Result<usize, usize>
     requires rising { IsRising entries.now }
     ensures found { IfOk result (IsAt entries.now eid) }
@@ -229,6 +268,7 @@ fn is_gap(entries: &[Entry], at: usize, eid: i32) -> bool
 }
 
 /// Where a number stands, or else where it would go; that is looked for at one place first.
+#[inline]
 pub(crate) fn place_near(entries: &[Entry], near: usize, eid: i32) -> Result<usize, usize>
     requires rising { IsRising entries.now }
     ensures found { IfOk result (IsAt entries.now eid) }

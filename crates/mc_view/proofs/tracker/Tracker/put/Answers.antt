@@ -4,9 +4,8 @@ use Rattle.std.proofs.lemmas.Int.{to_z-of_z}
 use Rattle.std.specs.FinMap as map
 use lib.IntN.{ℤ}
 use Rattle.mc_view.specs.declared.tracker.Entry.{Entry}
-use Rattle.mc_view.specs.KeptTold.{IsAbove, IsAt, IsGap, told_of}
-use Rattle.mc_view.proofs.TrackerFacts.{rises_insert, rises_push, rises_set, told_insert}
-use Rattle.mc_view.proofs.TrackerFacts.{told_push, told_set}
+use Rattle.mc_view.specs.KeptTold.{IsAbove, told_of}
+use Rattle.mc_view.proofs.TrackerFacts.{rises_push, told_push}
 use Rattle.mc_view.proofs.tracker.Tracker.put.Goals as goal
 
 pub invariant_of-self-then-is_above : goal.invariant_of-self-then-is_above
@@ -34,53 +33,5 @@ returns-then-is_above-clause-ok c =
     (c.is_above.ensures c.if-is_above.true)) in
     rw (← c.self.view_is)
     (ap told_of c.in_ok-push.ensures.items ∙ told_push es new c.self.invariant high
-    ∙ ap (λ (k : ℤ). map.insert (told_of es) k (c.args.spot, c.args.pile))
-    (to_z-of_z w32 c.args.eid fits))
-
-pub invariant_of-self-in-Ok : goal.invariant_of-self-in-Ok
-invariant_of-self-in-Ok c =
-    let new : Entry =
-    record { eid = to_z w32 (of_z w32 c.args.eid); spot = c.args.spot; pile = c.args.pile } in
-    let is =
-    subst (λ (es : List Entry). IsAt es new.eid c.in-Ok.at) c.as_slice-2.ensures.value
-    c.in-Ok.ensures.found in
-    rises_set c.self.inside.entries.items c.in-Ok.at new c.self.invariant is
-
-pub invariant_of-self-in-Err : goal.invariant_of-self-in-Err
-invariant_of-self-in-Err c =
-    let new : Entry =
-    record { eid = to_z w32 (of_z w32 c.args.eid); spot = c.args.spot; pile = c.args.pile } in
-    let gap =
-    subst (λ (es : List Entry). IsGap es new.eid c.in-Err.at) c.as_slice-2.ensures.value
-    c.in-Err.ensures.absent in
-    rw c.in_ok-insert-in-Err.ensures.items
-    (rises_insert c.self.inside.entries.items c.in-Err.at new c.self.invariant gap)
-
-pub returns-in-Ok-clause-ok : goal.returns-in-Ok-clause-ok
-returns-in-Ok-clause-ok c =
-    let fits : FitsSigned w32 c.args.eid = search rules in
-    let es = c.self.inside.entries.items in
-    let new : Entry =
-    record { eid = to_z w32 (of_z w32 c.args.eid); spot = c.args.spot; pile = c.args.pile } in
-    let is =
-    subst (λ (es : List Entry). IsAt es new.eid c.in-Ok.at) c.as_slice-2.ensures.value
-    c.in-Ok.ensures.found in
-    rw (← c.self.view_is)
-    (told_set es c.in-Ok.at new c.self.invariant is
-    ∙ ap (λ (k : ℤ). map.insert (told_of es) k (c.args.spot, c.args.pile))
-    (to_z-of_z w32 c.args.eid fits))
-
-pub returns-in_ok-insert-in-Err-clause-ok : goal.returns-in_ok-insert-in-Err-clause-ok
-returns-in_ok-insert-in-Err-clause-ok c =
-    let fits : FitsSigned w32 c.args.eid = search rules in
-    let es = c.self.inside.entries.items in
-    let new : Entry =
-    record { eid = to_z w32 (of_z w32 c.args.eid); spot = c.args.spot; pile = c.args.pile } in
-    let gap =
-    subst (λ (es : List Entry). IsGap es new.eid c.in-Err.at) c.as_slice-2.ensures.value
-    c.in-Err.ensures.absent in
-    rw (← c.self.view_is)
-    (ap told_of c.in_ok-insert-in-Err.ensures.items
-    ∙ told_insert es c.in-Err.at new c.self.invariant gap
     ∙ ap (λ (k : ℤ). map.insert (told_of es) k (c.args.spot, c.args.pile))
     (to_z-of_z w32 c.args.eid fits))
