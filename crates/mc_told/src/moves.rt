@@ -85,9 +85,8 @@ pub fn put_moves(
     if *from == *to {
         return Ok(());
     }
-    let moves = form(*from, *to);
     match encoded.moved(eid, from, to) {
         Some(frames) => Ok(out.extend_from_slice(frames)?),
-        None => put_own(eid, to, moves, out),
+        None => put_own(eid, to, form(*from, *to), out),
     }
 }
