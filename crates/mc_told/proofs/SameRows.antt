@@ -1,10 +1,13 @@
 -- Spots, kinds, piles and rows are equal where a comparison of their parts says so.
-use Rattle.std.proofs.Common.{◌≡◌, true, ◌&&◌, [], ap, refl, ◌∙◌, arith}
+use Rattle.std.proofs.Common.{◌≡◌, Bool, true, cond, ◌&&◌, List, [], ◌++◌, Some, ap, refl, ◌∙◌}
+use Rattle.std.proofs.Common.{arith}
 use Rattle.std.proofs.lemmas.Bool.Decides.{nat_tests}
 use Rattle.std.proofs.lemmas.Int.{ints}
 use lib.IntN.{ℤ}
 use Rattle.mc_view.specs.Forms.{moves_of}
-use Rattle.mc_model.specs.Delta.{moves_packets}
+use Rattle.mc_model.specs.Delta.{entity_packets, is_same_slot, moves_packets, pile_packets}
+use Rattle.mc_model.specs.Delta.{pile_told}
+use Rattle.mc_packets.specs.declared.down.Down.{Down}
 use Rattle.std.specs.Prelude.{nat_eq}
 use Rattle.std.specs.Ordering.{int_eq}
 use Rattle.std.specs.Cmp.{unsigned_Decides}
@@ -13,11 +16,13 @@ use Rattle.mc_fields.specs.declared.position.Spot.{Spot}
 use Rattle.mc_slots.specs.declared.pile.Item.{Item}
 use Rattle.mc_slots.specs.declared.pile.Pile.{Pile}
 use Rattle.mc_slots.specs.declared.pile.Pile.TheVariants as piles
+use Rattle.mc_slots.specs.Pile.{slot_of}
 use Rattle.mc_model.specs.declared.seen.SeenKind.{SeenKind}
 use Rattle.mc_model.specs.declared.seen.SeenKind.TheVariants.{Player, Dropped, Mob}
 use Rattle.mc_model.proofs.FitsText.{both_true}
 use Rattle.mc_told.specs.declared.row.Row.{Row}
 use Rattle.mc_told.specs.EntityFrames.{is_same_kind, is_same_pile, is_same_row, is_same_spot}
+use Rattle.mc_told.specs.Telling.{told_as}
 
 -- number by number
 pub same_spot : (a b : Spot) → is_same_spot a b ≡ true → a ≡ b
@@ -91,3 +96,17 @@ pub unmoved : (eid : ℤ) (from to : Spot) → is_same_spot from to ≡ true →
 unmoved eid from to same =
     ap (λ (spot : Spot). moves_packets eid to (moves_of spot to)) (same_spot from to same)
     ∙ still_moves eid to
+
+-- ---- an entity of which nothing changed
+
+own_slot : (pile : Pile) → is_same_slot (slot_of pile) (slot_of pile) ≡ true
+own_slot piles.Empty = refl
+own_slot (piles.Full item) = grind (arith, nat_tests, ints)
+
+-- nothing is told of one that is as it was told
+pub unchanged : (eid : ℤ) (kind : SeenKind) (was : Spot × Pile) →
+    entity_packets eid (Some (told_as kind was)) (told_as kind was) ≡ []
+unchanged eid kind was =
+    ap (λ (moves : List Down). moves ++ pile_packets eid kind (slot_of was.1) (slot_of was.1))
+    (still_moves eid was.0)
+    ∙ ap (λ (same : Bool). cond same [] (pile_told eid kind (slot_of was.1))) (own_slot was.1)

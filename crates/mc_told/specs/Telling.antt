@@ -71,16 +71,22 @@ abbrev pub entity_frames : Told → List Entity → ViewSet → List Down
 entity_frames told entities view =
     flat_map (packets_of told) (map seen_of (in_view view entities))
 
--- a row of an entity, as clients are shown it; a mob has no pile
-abbrev pub row_as : Entity → EntityKind → Row
-row_as e (Player uuid held) =
-    record { eid = e.eid; kind = seen_kinds.Player uuid; spot = e.spot; pile = held }
-row_as e (Dropped item born) =
-    record { eid = e.eid; kind = seen_kinds.Dropped; spot = e.spot; pile = Full item }
-row_as e Mob = record { eid = e.eid; kind = seen_kinds.Mob; spot = e.spot; pile = Empty }
+-- what an entity is, as clients are shown it
+abbrev pub kind_of : EntityKind → SeenKind
+kind_of (Player uuid held) = seen_kinds.Player uuid
+kind_of (Dropped item born) = seen_kinds.Dropped
+kind_of Mob = seen_kinds.Mob
 
+-- the pile that it holds or is; a mob has none
+abbrev pub pile_of : EntityKind → Pile
+pile_of (Player uuid held) = held
+pile_of (Dropped item born) = Full item
+pile_of Mob = Empty
+
+-- a row of an entity, as clients are shown it
 abbrev pub entity_row : Entity → Row
-entity_row e = row_as e e.kind
+entity_row e =
+    record { eid = e.eid; kind = kind_of e.kind; spot = e.spot; pile = pile_of e.kind }
 
 -- of those that stand in a view
 abbrev pub rows_in : ViewSet → List Entity → List Row

@@ -19,8 +19,8 @@ ghost use Rattle.mc_told.specs.Telling.{entity_frames, gone_from, rows_in, rows_
 ghost use Rattle.mc_told.specs.Telling.{with_rows};
 
 use crate::EncodedEntities;
-use crate::known::put_row;
-use crate::row::{entity_row, is_in};
+use crate::known::put_shown;
+use crate::row::is_in;
 use bytes::Bytes;
 use mc_bytes::NoMemory;
 use mc_entities::{Entity, Folk};
@@ -110,7 +110,7 @@ fn put_entity(
     if !is_in(&view.view, entity) {
         return Ok(());
     }
-    put_row(view.encoded, &entity_row(entity), told, now, out)?;
+    put_shown(view.encoded, entity, told, now, out)?;
     Ok(())
 }
 

@@ -1,18 +1,20 @@
 //! What a client is told of one entity.
 
-ghost use Rattle.std.specs.Prelude.{◌≡◌, ◌++◌, OnOk, Some};
+ghost use Rattle.std.specs.Prelude.{◌≡◌, ◌++◌, IsTrue, OnOk, Some};
 ghost use Rattle.mc_slots.specs.Pile.{IsPile, slot_of};
+ghost use Rattle.mc_entities.specs.Kinds.{IsKind};
 ghost use Rattle.mc_model.specs.Delta.{entity_packets, pile_packets};
 ghost use Rattle.mc_told.specs.EntityFrames.{AreEncoded};
 ghost use Rattle.mc_sending.specs.Sending.{play_bytes};
-ghost use Rattle.mc_told.specs.Telling.{told_as, row_packets, with_row};
+ghost use Rattle.mc_told.specs.Telling.{entity_row, kind_of, pile_of, row_packets, told_as, with_row};
 
 use crate::EncodedEntities;
 use crate::moves::put_moves;
 use crate::piles::put_pile;
-use crate::row::Row;
+use crate::row::{Row, entity_row, pile_of};
 use crate::spawns::put_new;
 use mc_bytes::NoMemory;
+use mc_entities::Entity;
 use mc_fields::Spot;
 use mc_slots::Pile;
 use mc_view::{Looks, Tracker};
@@ -29,9 +31,9 @@ fn put_other(row: &Row, was: &Pile, out: &mut Vec<u8>) -> Result<(), NoMemory>
     Ok(())
 }
 
-/// Appends what differs of an entity of which a client was told where it was and which pile it held
-/// or was.
-fn put_known(
+/// Appends what differs of a row of which a client was told where it was and which pile it held or
+/// was.
+fn put_changed(
     encoded: &EncodedEntities,
     row: &Row,
     was: &(Spot, Pile),
@@ -48,24 +50,55 @@ fn put_known(
     Ok(())
 }
 
-/// Appends what a client that was told something of entities is to be told of one, and keeps that.
-pub fn put_row(
+/// Whether an entity of a pile is where a client was told, looks so, and holds or is what it was
+/// told.
+fn is_as_told(entity: &Entity, pile: &Pile, was: &(Spot, Pile)) -> bool
+    ensures { IsTrue result → was.now ≡ (entity.now.spot, pile.now) }
+{
+    was.0 == entity.spot && was.1 == *pile
+}
+
+/// Appends what differs of an entity of which a client was told where it was and which pile it held
+/// or was. Of most nothing does, and they need no more than these comparisons.
+fn put_known(
     encoded: &EncodedEntities,
-    row: &Row,
+    entity: &Entity,
+    pile: &Pile,
+    was: &(Spot, Pile),
+    out: &mut Vec<u8>,
+) -> Result<(), NoMemory>
+    requires kind { IsKind entity.now.kind }
+    requires pile { pile.now ≡ pile_of entity.now.kind }
+    requires frames { AreEncoded encoded.now }
+    ensures { OnOk result (out.new.items ≡ out.old.items ++ play_bytes
+        (entity_packets entity.now.eid (Some (told_as (kind_of entity.now.kind) was.now))
+        (told_as (kind_of entity.now.kind) (entity.now.spot, pile_of entity.now.kind)))) }
+{
+    if is_as_told(entity, pile, was) {
+        return Ok(());
+    }
+    put_changed(encoded, &entity_row(entity), was, out)
+}
+
+/// Appends what a client that was told something of entities is to be told of one, and keeps that.
+pub fn put_shown(
+    encoded: &EncodedEntities,
+    entity: &Entity,
     told: &mut Looks<'_>,
     now: &mut Tracker,
     out: &mut Vec<u8>,
 ) -> Result<(), NoMemory>
-    requires pile { IsPile row.now.pile }
+    requires kind { IsKind entity.now.kind }
     requires frames { AreEncoded encoded.now }
     ensures same { OnOk result (told.new ≡ told.old) }
     ensures sent { OnOk result (out.new.items
-        ≡ out.old.items ++ play_bytes (row_packets told.old row.now)) }
-    ensures now { OnOk result (now.new ≡ with_row now.old row.now) }
+        ≡ out.old.items ++ play_bytes (row_packets told.old (entity_row entity.now))) }
+    ensures now { OnOk result (now.new ≡ with_row now.old (entity_row entity.now)) }
 {
-    now.put(row.eid, row.spot, row.pile)?;
-    match told.find(row.eid) {
-        Some(was) => put_known(encoded, row, &was, out),
-        None => put_new(encoded, row, out),
+    let pile = pile_of(&entity.kind);
+    now.put(entity.eid, entity.spot, pile)?;
+    match told.find(entity.eid) {
+        Some(was) => put_known(encoded, entity, &pile, &was, out),
+        None => put_new(encoded, &entity_row(entity), out),
     }
 }

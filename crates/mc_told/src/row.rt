@@ -3,7 +3,7 @@
 ghost use Rattle.std.specs.Prelude.{◌≡◌};
 ghost use Rattle.mc_slots.specs.Pile.{IsPile};
 ghost use Rattle.mc_entities.specs.Kinds.{IsKind};
-ghost use Rattle.mc_told.specs.Telling.{is_in, entity_row};
+ghost use Rattle.mc_told.specs.Telling.{entity_row, is_in, kind_of, pile_of};
 
 use mc_entities::{Entity, EntityKind};
 use mc_fields::Spot;
@@ -24,21 +24,39 @@ pub struct Row {
     pub pile: Pile,
 }
 
+/// What an entity is, as clients are shown it.
+fn kind_of(kind: &EntityKind) -> SeenKind
+    ensures { result ≡ kind_of kind.now }
+{
+    match kind {
+        EntityKind::Player { uuid, .. } => SeenKind::Player(*uuid),
+        EntityKind::Dropped { .. } => SeenKind::Dropped,
+        EntityKind::Mob => SeenKind::Mob,
+    }
+}
+
+/// The pile that an entity holds or is, empty of a mob.
+pub fn pile_of(kind: &EntityKind) -> Pile
+    ensures pile { result ≡ pile_of kind.now }
+    ensures range { IsKind kind.now → IsPile result }
+{
+    match kind {
+        EntityKind::Player { held, .. } => *held,
+        EntityKind::Dropped { item, .. } => Pile::Full(*item),
+        EntityKind::Mob => Pile::Empty,
+    }
+}
+
 /// An entity as clients are shown it.
 pub fn entity_row(entity: &Entity) -> Row
     ensures row { result ≡ entity_row entity.now }
     ensures range { IsKind entity.now.kind → IsPile result.pile }
 {
-    let (kind, pile) = match entity.kind {
-        EntityKind::Player { uuid, held } => (SeenKind::Player(uuid), held),
-        EntityKind::Dropped { item, .. } => (SeenKind::Dropped, Pile::Full(item)),
-        EntityKind::Mob => (SeenKind::Mob, Pile::Empty),
-    };
     Row {
         eid: entity.eid,
-        kind,
+        kind: kind_of(&entity.kind),
         spot: entity.spot,
-        pile,
+        pile: pile_of(&entity.kind),
     }
 }
 

@@ -1,4 +1,4 @@
-use Rattle.std.proofs.Common.{◌≡◌, List, ap, sym, subst, ◌∙◌}
+use Rattle.std.proofs.Common.{List, ap, sym, subst, ◌∙◌}
 use lib.IntN.{ℤ, pos}
 use Rattle.mc_entities.specs.declared.entity.Entity.{Entity}
 use Rattle.mc_entities.specs.Folk.{eid_of}
@@ -7,7 +7,7 @@ use Rattle.mc_model.specs.Delta.{destroying}
 use Rattle.mc_model.specs.Sight.{others}
 use Rattle.mc_sending.specs.Sending.{play_bytes}
 use Rattle.mc_view.specs.Told.{Told}
-use Rattle.mc_told.specs.Telling.{rows_in, rows_packets, told_now, with_rows}
+use Rattle.mc_told.specs.Telling.{rows_in, rows_packets, with_rows}
 use Rattle.mc_told.proofs.Rows.{frames_are}
 use Rattle.mc_told.proofs.Told.{lost_is, others_rise, told_all}
 use Rattle.mc_told.proofs.entities.tell.Goals as goal

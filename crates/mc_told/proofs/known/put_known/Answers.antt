@@ -1,26 +1,23 @@
-use Rattle.std.proofs.Common.{ℕ, List, ◌++◌, rules, FitsSigned, sym, ap, ◌∙◌}
-use Rattle.std.specs.Int.{w32}
-use Rattle.std.proofs.lemmas.Int.{to_z-of_z}
-use lib.IntN.{ℤ}
-use Rattle.mc_slots.specs.Pile.{slot_of}
-use Rattle.mc_view.specs.Forms.{moves_of}
-use Rattle.mc_model.specs.Delta.{moves_packets, pile_packets}
+use Rattle.std.proofs.Common.{◌≡◌, ◌++◌, ◌∙◌, List, Some, ap, sym}
+use Rattle.std.proofs.lemmas.List.{append-nil}
+use Rattle.mc_fields.specs.declared.position.Spot.{Spot}
+use Rattle.mc_slots.specs.declared.pile.Pile.{Pile}
+use Rattle.mc_packets.specs.declared.down.Down.{Down}
+use Rattle.mc_model.specs.Delta.{entity_packets}
 use Rattle.mc_sending.specs.Sending.{play_bytes}
-use Rattle.mc_sending.proofs.Pieces.{play_bytes-append, two_put}
+use Rattle.mc_told.specs.Telling.{kind_of, pile_of, told_as}
+use Rattle.mc_told.proofs.SameRows.{unchanged}
 use Rattle.mc_told.proofs.known.put_known.Goals as goal
 
-pub returns : goal.returns
-returns c =
-    let row = c.args.row.now in
-    let was = c.args.was.now in
-    let old = c.args.out.now.items in
-    let fits : FitsSigned w32 row.eid = search rules in
-    let same = to_z-of_z w32 row.eid fits in
-    let moves = moves_packets row.eid row.spot (moves_of was.0 row.spot) in
-    let pile = pile_packets row.eid row.kind (slot_of was.1) (slot_of row.pile) in
-    two_put old c.put_moves.new.out.items c.put_other.new.out.items (play_bytes moves)
-    (play_bytes pile)
-    (c.in_ok-put_moves.ensures ∙ ap (λ (k : ℤ). old ++ play_bytes (moves_packets k row.spot
-    (moves_of was.0 row.spot))) same)
-    c.in_ok-put_other.ensures
-    ∙ ap (λ (t : List ℕ). old ++ t) (sym (play_bytes-append moves pile))
+pub returns-then-is_as_told : goal.returns-then-is_as_told
+returns-then-is_as_told c =
+    let e = c.args.entity.now in
+    let out = c.args.out.now.items in
+    let kind = kind_of e.kind in
+    let now : Spot × Pile = (e.spot, pile_of e.kind) in
+    let same : c.args.was.now ≡ now = c.is_as_told.ensures c.if-is_as_told.true
+    ∙ ap (λ (pile : Pile). (e.spot, pile)) c.requires.pile in
+    sym (ap (λ (was : Spot × Pile). out ++ play_bytes (entity_packets e.eid
+    (Some (told_as kind was)) (told_as kind now))) same
+    ∙ ap (λ (packets : List Down). out ++ play_bytes packets) (unchanged e.eid kind now)
+    ∙ append-nil out)
