@@ -27,7 +27,7 @@ use mc_entities::{Entity, Folk};
 use mc_model::DESTROYED_MAX;
 use mc_packets::{Down, Varints};
 use mc_sending::put_made;
-use mc_view::{Looks, Tracker, ViewSet};
+use mc_view::{Area, Looks, Tracker, ViewSet};
 use std::alloc::Global;
 
 /// What one client is shown of the entities.
@@ -91,11 +91,13 @@ fn destroy_piece(alloc: Global, gone: &[i32]) -> Result<Bytes, NoMemory>
 /// nothing of its own, and of one that is not in its view.
 fn put_entity(
     view: &EntityView<'_>,
+    area: &Area,
     entity: &Entity,
     told: &mut Looks<'_>,
     now: &mut Tracker,
     out: &mut Vec<u8>,
 ) -> Result<(), NoMemory>
+    requires area { area.now ≡ view.now.view }
     requires kind { IsKind entity.now.kind }
     requires frames { AreEncoded view.now.encoded.now }
     ensures same { OnOk result (told.new ≡ told.old) }
@@ -107,7 +109,7 @@ fn put_entity(
     if entity.eid == view.me {
         return Ok(());
     }
-    if !is_in(&view.view, entity) {
+    if !is_in(area, entity) {
         return Ok(());
     }
     put_shown(view.encoded, entity, told, now, out)?;
@@ -130,9 +132,10 @@ fn put_entities(
     ensures now { OnOk result (now.new ≡ with_rows now.old
         (rows_in view.now.view (others view.now.me entities.now))) }
 {
+    let area = Area::of(&view.view);
     let mut looks = told.looks();
     for entity in entities {
-        put_entity(view, entity, &mut looks, now, out)?;
+        put_entity(view, &area, entity, &mut looks, now, out)?;
     }
     Ok(())
 }

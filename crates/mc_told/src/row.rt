@@ -9,7 +9,7 @@ use mc_entities::{Entity, EntityKind};
 use mc_fields::Spot;
 use mc_model::SeenKind;
 use mc_slots::Pile;
-use mc_view::{ViewSet, column_of_spot};
+use mc_view::Area;
 
 /// An entity as clients are shown it.
 #[derive(Clone, Copy, PartialEq, Eq)]
@@ -60,10 +60,9 @@ pub fn entity_row(entity: &Entity) -> Row
     }
 }
 
-/// Whether an entity stands in a view.
-pub fn is_in(view: &ViewSet, entity: &Entity) -> bool
-    ensures { result ≡ is_in view.now entity.now }
+/// Whether an entity stands in the area of a view.
+pub fn is_in(area: &Area, entity: &Entity) -> bool
+    ensures { result ≡ is_in area.now entity.now }
 {
-    let (cx, cz) = column_of_spot(&entity.spot);
-    view.has(cx, cz)
+    area.has(&entity.spot)
 }

@@ -7,6 +7,7 @@
 //! those of now.
 #![tactic(auto)]
 
+mod area;
 mod around;
 mod columns;
 mod forms;
@@ -16,6 +17,7 @@ mod square;
 mod tracker;
 mod view_set;
 
+pub use area::Area;
 pub use around::{column_of_spot, view_size};
 pub use columns::Columns;
 pub use forms::{Form, Moves};
