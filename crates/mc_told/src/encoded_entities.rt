@@ -30,6 +30,8 @@ pub struct EncodedEntities {
     moves: BTreeMap<i32, Moved>,
     /// By number, what shows an entity that is new.
     spawns: BTreeMap<i32, Spawned>,
+    /// How many bytes the frames of moves are, for who makes room for some of them.
+    size: usize,
 }
 
 impl Model for EncodedEntities {
@@ -55,6 +57,7 @@ impl EncodedEntities {
         EncodedEntities {
             moves: BTreeMap::new(alloc),
             spawns: BTreeMap::new(alloc),
+            size: 0,
         }
     }
 
@@ -98,7 +101,9 @@ impl EncodedEntities {
             to: entity.spot,
             frames: moves_piece(alloc, entity.eid, from, &entity.spot)?,
         };
+        let size = moved.frames.len();
         self.moves.insert(entity.eid, moved)?;
+        self.size = self.size.saturating_add(size);
         Ok(())
     }
 
@@ -115,6 +120,11 @@ impl EncodedEntities {
         };
         self.spawns.insert(entity.eid, spawned)?;
         Ok(())
+    }
+
+    /// How many bytes the frames of moves are, or fewer.
+    pub(crate) fn size(&self) -> usize {
+        self.size
     }
 
     /// What was encoded of the move of the entity of a number.

@@ -30,6 +30,10 @@ use mc_sending::put_made;
 use mc_view::{Area, Looks, Tracker, ViewSet};
 use std::alloc::Global;
 
+/// For how many bytes there is room at first, at most, where a client is shown entities: about as
+/// many as those of four hundred moves.
+const FIRST_SIZE: usize = 4_096;
+
 /// What one client is shown of the entities.
 #[derive(Drop)]
 pub struct EntityView<'w> {
@@ -155,7 +159,7 @@ fn shown_piece(
     ensures now { OnOk result (now.new ≡ with_rows now.old
         (rows_in view.now.view (others view.now.me entities.now))) }
 {
-    let mut bytes = Vec::new(alloc);
+    let mut bytes = Vec::with_capacity(alloc, view.encoded.size().min(FIRST_SIZE))?;
     put_entities(view, entities, told, now, &mut bytes)?;
     Ok(Bytes::from_vec(bytes)?)
 }

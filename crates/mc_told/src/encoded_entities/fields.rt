@@ -12,6 +12,7 @@ fn name_fields(encoded: &EncodedEntities) {
     every_field!(encoded: EncodedEntities {
         moves: BTreeMap<i32, Moved>,
         spawns: BTreeMap<i32, Spawned>,
+        size: usize,
     });
 }
 
