@@ -92,9 +92,14 @@ def added(path, words, before, after):
     return instructions(path, words, after.text()) - instructions(path, words, before.text())
 
 
-def replay(view):
+def replay(view, land="flat"):
     """The arguments of a replay."""
-    return ["replay", "players=50", f"view={view}", "land=flat"]
+    return ["replay", "players=50", f"view={view}", f"land={land}"]
+
+
+def beside_items():
+    """Those where items are the measure: a land of which hardly a byte is sent."""
+    return replay(2, "isle")
 
 
 def beside(items, watchers):
@@ -112,7 +117,7 @@ def beside(items, watchers):
         script.gone(number)
         number += 1
     for watcher in range(watchers):
-        script.join(1000 + watcher, f"W{watcher}", place=(14.5, 4.0, 2.5 + watcher % 8))
+        script.join(1000 + watcher, f"W{watcher}", place=(14.5, 64.0, 2.5 + watcher % 8))
     script.tick(4)
     return script
 
@@ -121,7 +126,7 @@ def loses_all(script, watchers):
     """The same, and a tick in which the clients go where nobody sees any of it."""
     later = script.and_then()
     for watcher in range(watchers):
-        later.send(1000 + watcher, protocol.position(4000.5, 4.0, 8.5))
+        later.send(1000 + watcher, protocol.position(4000.5, 64.0, 8.5))
     later.tick()
     return later
 
@@ -159,15 +164,15 @@ def items_lost(path):
     costs = []
     for items in (4096, 1024):
         script = beside(items, 1)
-        costs.append(added(path, replay(2), script, loses_all(script, 1)))
+        costs.append(added(path, beside_items(), script, loses_all(script, 1)))
     return tuple(costs)
 
 
 def items_lost_by_all(path):
     """The tick in which 50 clients lose sight of 4,096 items, to the idle tick before it."""
     script = beside(4096, 50)
-    lost = added(path, replay(2), script, loses_all(script, 50))
-    return lost, added(path, replay(2), script, ticked(script))
+    lost = added(path, beside_items(), script, loses_all(script, 50))
+    return lost, added(path, beside_items(), script, ticked(script))
 
 
 def idle_with_items(path):
@@ -175,7 +180,7 @@ def idle_with_items(path):
     costs = []
     for items in (4096, 0):
         script = beside(items, 50)
-        costs.append(added(path, replay(2), script, ticked(script)))
+        costs.append(added(path, beside_items(), script, ticked(script)))
     return tuple(costs)
 
 

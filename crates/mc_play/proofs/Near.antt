@@ -11,6 +11,7 @@ use Rattle.mc_entities.specs.declared.mind.Move.{Move}
 use Rattle.mc_entities.specs.Kinds.{is_mob}
 use Rattle.mc_entities.specs.Numbers.{numbered}
 use Rattle.mc_entities.specs.Folk.{FolkState, after_tick, eid_of, placed, rank, removed}
+use Rattle.mc_entities.specs.Folk.{removed_all}
 use Rattle.mc_entities.specs.Folk.{stepped, ticked, with_kind}
 use Rattle.mc_entities.specs.Plans.{move_at}
 use Rattle.mc_entities.specs.Shift.{added, is_inside, shifted_spot}
@@ -21,6 +22,10 @@ use Rattle.mc_play.specs.Kept.{AreNear, IsNear}
 pub removed_near : (eid : ℤ) (state : FolkState) → AreNear state.entities →
     AreNear (removed eid state).entities
 removed_near eid state = grind (arith, nat_tests, all_filtered)
+
+pub all_removed_near : (eids : List ℤ) (state : FolkState) → AreNear state.entities →
+    AreNear (removed_all eids state).entities
+all_removed_near eids state = grind (arith, nat_tests, all_filtered)
 
 -- one that is put at such a spot
 pub placed_near : (eid : ℤ) (spot : Spot) (state : FolkState) → IsNear spot →

@@ -1,10 +1,21 @@
 -- Items that go into a player's pack one after another, and players that pick up one after another.
-use Rattle.std.proofs.Common.{◌≡◌, ℕ, List, [], ◌∷◌, ◌++◌, refl, sym, ap, ◌∙◌, ℤ}
+use Rattle.std.proofs.Common.{◌≡◌, ℕ, List, [], ◌∷◌, ◌++◌, refl, sym, ap, ◌∙◌, ℤ, true, cond, arith}
+use Rattle.std.proofs.lemmas.Bool.Decides.{Decides-int_eq, nat_tests}
+use Rattle.std.proofs.lemmas.Cmp.{int_cmp_total}
+use Rattle.std.proofs.lemmas.Map.Lookups.{exact_signed}
+use Rattle.std.specs.Bool.{one_answer}
+use Rattle.std.specs.Cmp.{tied_itself}
+use Rattle.std.specs.declared.cmp.Ordering.{Ordering}
+use Rattle.std.specs.declared.cmp.Ordering.TheVariants.{Equal}
 use Rattle.std.proofs.lemmas.List.{append_assoc}
 use Rattle.std.proofs.lemmas.List.Elements.{filter_map-append}
 use Rattle.std.specs.Prelude.{Option, Some}
 use Rattle.std.specs.List.{filter_map, fold}
-use Rattle.std.specs.Ordering.{nat_cmp}
+use Rattle.std.specs.Ordering.{int_cmp, int_eq, is_eq, nat_cmp}
+use lib.IntN.{pos}
+use Rattle.mc_entities.specs.declared.entity.Entity.{Entity}
+use Rattle.mc_entities.specs.Folk.{eid_of}
+use Rattle.mc_entities.specs.Numbers.{changed, is_among, without, without_all}
 use Rattle.std.specs.FinMap.{FinMap, get}
 use Rattle.mc_slots.specs.declared.pile.Item.{Item}
 use Rattle.mc_slots.specs.declared.pile.Pile.{Pile}
@@ -14,9 +25,11 @@ use Rattle.mc_windows.specs.Storing.{stored}
 use Rattle.mc_model.specs.declared.player.Player.{Player}
 use Rattle.mc_model.specs.Game.{Game, pack_of}
 use Rattle.mc_model.specs.Deeds.{lessened, repack_of}
+use Rattle.mc_model.specs.Things.{holding, in_hand, lying_as}
 use Rattle.mc_model.specs.Pickups.{pick_up, ripe_for, stowed}
-use Rattle.mc_play.specs.Kept.{GameValue, by_player, played}
-use Rattle.mc_play.specs.Picking.{all_stowed}
+use Rattle.mc_land.specs.Places.{key_cmp}
+use Rattle.mc_play.specs.Kept.{Aside, GameValue, by_player, played}
+use Rattle.mc_play.specs.Picking.{all_stowed, stowed_by, without_those}
 use Rattle.mc_play.proofs.Dropping.{by_some}
 use Rattle.mc_play.proofs.Steps.{then_played}
 
@@ -45,24 +58,100 @@ found_next f found next all x left_ rest more made put =
     ∙ ap (λ ys. found ++ ys) (sym (filter_map-append f (x ∷ []) rest))
     ∙ ap (λ xs. found ++ filter_map f xs) (sym more) ∙ made
 
+-- ---- entities that go at the end
+
+-- nobody goes
+none_go : (es : List Entity) → without_all eid_of [] es ≡ es
+none_go [] = refl
+none_go (e ∷ es) = ap (λ (t : List Entity). e ∷ t) (none_go es)
+
+pub none_gone : (gone : List ℤ) (g : Game) → gone ≡ [] → without_those gone g ≡ g
+none_gone gone g none = rw none (λ i. record g { entities = none_go g.entities i })
+
+is_equal : (o : Ordering) → is_eq o ≡ true → o ≡ Equal
+is_equal o e = grind (arith, nat_tests)
+
+same_number : (a b : ℤ) → is_eq (int_cmp a b) ≡ int_eq b a
+same_number a b = one_answer (is_eq (int_cmp a b)) (int_eq b a) (
+  λ t. sym (exact_signed a b (is_equal (int_cmp a b) t)),
+  λ e. rw e (ap is_eq (tied_itself int_cmp_total a)),
+) (Decides-int_eq b a)
+
+-- one more goes
+one_more_goes : (gone more : List ℤ) (eid : ℤ) (es : List Entity) →
+    ((n : ℤ) → is_among more n ≡ cond (is_eq (int_cmp eid n)) true (is_among gone n)) →
+    without_all eid_of more es ≡ without eid_of eid (without_all eid_of gone es)
+one_more_goes gone more eid [] are = refl
+one_more_goes gone more eid (e ∷ es) are = grind (
+  arith,
+  nat_tests,
+  one_more_goes gone more eid es are,
+  are e.eid,
+  same_number eid e.eid,
+)
+
+-- who goes changes before or not at all
+changed_goes : (gone : List ℤ) (eid : ℤ) (f : Entity → Entity) (es : List Entity) →
+    ((e : Entity) → (f e).eid ≡ e.eid) → without_all eid_of gone (changed eid_of eid f es) ≡
+    changed eid_of eid f (without_all eid_of gone es)
+changed_goes gone eid f [] keeps = refl
+changed_goes gone eid f (e ∷ es) keeps =
+    grind (arith, nat_tests, changed_goes gone eid f es keeps, keeps e)
+
+pub repack_goes : (gone : List ℤ) (p : Player) (pack : PackValue) (g : Game) →
+    without_those gone (repack_of p pack g) ≡ repack_of p pack (without_those gone g)
+repack_goes gone p pack g i = record (repack_of p pack g) {
+  entities = changed_goes gone (pos p.eid) (holding (in_hand pack p.hand)) g.entities
+      (λ e. refl) i;
+}
+
+pub empty_goes : (gone more : List ℤ) (eid : ℤ) (g n : Game) → n ≡ g →
+    ((k : ℤ) → is_among more k ≡ cond (is_eq (int_cmp eid k)) true (is_among gone k)) →
+    without_those more n ≡ lessened eid Empty (without_those gone g)
+empty_goes gone more eid g n same are =
+    ap (without_those more) same
+    ∙ (λ i. record g { entities = one_more_goes gone more eid g.entities are i })
+
+pub rest_stays : (gone : List ℤ) (eid : ℤ) (item : Item) (g : Game) →
+    without_those gone (lessened eid (Full item) g) ≡
+    lessened eid (Full item) (without_those gone g)
+rest_stays gone eid item g i = record g {
+  entities = changed_goes gone eid (lying_as item) g.entities (λ e. refl) i;
+}
+
 -- ---- one item
 
 -- what is stowed into the pack of the player of a connection, step by step
 pub stows : (k : ℕ) (p : Player) (eid : ℤ) (item : Item) (e : ℤ × Item) (before pack : PackValue)
-    (left_ : Pile) (u mid n : GameValue) → get u.game.players k ≡ Some p → (eid, item) ≡ e →
-    before ≡ pack_of u.game p → pack ≡ (stored before item).pack →
+    (left_ : Pile) (u mid n : GameValue) (was now : List ℤ) → get u.game.players k ≡ Some p →
+    (eid, item) ≡ e → before ≡ pack_of u.game p → pack ≡ (stored before item).pack →
     left_ ≡ (stored before item).floor →
     mid ≡ played u (by_player k (λ (q : Player). repack_of q pack) u.game) u.aside →
-    n ≡ played mid (lessened eid left_ mid.game) n.aside →
-    n ≡ played u (by_player k (λ (q : Player). stowed q e) u.game) n.aside
-stows k p eid item e before pack left_ u mid n plays is carried packed rest repacked made =
+    without_those now n.game ≡ lessened eid left_ (without_those was mid.game) →
+    without_those now n.game ≡ stowed_by k (without_those was u.game) e
+stows k p eid item e before pack left_ u mid n was now plays is carried packed rest repacked made =
     let after = packed ∙ (λ i. (stored (carried i) (is i).1).pack) in
     let floor = rest ∙ (λ i. (stored (carried i) (is i).1).floor) in
-    then_played u (lessened eid left_) repacked made
-    ∙ ap (λ (g : Game). played u g n.aside)
-    (ap (lessened eid left_) (by_some k (λ (q : Player). repack_of q pack) u.game p plays)
-    ∙ (λ i. lessened (is i).0 (floor i) (repack_of p (after i) u.game))
-    ∙ sym (by_some k (λ (q : Player). stowed q e) u.game p plays))
+    let amid : mid.game ≡ repack_of p pack u.game = ap (λ (v : GameValue). v.game) repacked
+    ∙ by_some k (λ (q : Player). repack_of q pack) u.game p plays in
+    made
+    ∙ ap (λ (g : Game). lessened eid left_ (without_those was g)) amid
+    ∙ ap (lessened eid left_) (repack_goes was p pack u.game)
+    ∙ (λ i. lessened (is i).0 (floor i) (repack_of p (after i) (without_those was u.game)))
+    ∙ sym (by_some k (λ (q : Player). stowed q e) (without_those was u.game) p plays)
+
+-- once the first of those that are left is stowed, stowing the others comes to all the same
+pub stow_next : (k : ℕ) (xs now_ rest : List (ℤ × Item)) (x : ℤ × Item) (start v n : Game) →
+    now_ ≡ x ∷ rest → all_stowed k now_ v ≡ all_stowed k xs start → n ≡ stowed_by k v x →
+    all_stowed k rest n ≡ all_stowed k xs start
+stow_next k xs now_ rest x start v n next so made =
+    ap (all_stowed k rest) made ∙ ap (λ es. all_stowed k es v) (sym next) ∙ so
+
+-- a kept game is another by what it is and by what was settled
+pub taken : (game next : Game) (settled was : FinMap key_cmp ℕ) (aside : Aside) → game ≡ next →
+    settled ≡ was → ◌≡◌ {A = GameValue} (record { game = game; settled = settled; aside = aside })
+    (record { game = next; settled = was; aside = aside })
+taken game next settled was aside e f j = record { game = e j; settled = f j; aside = aside }
 
 -- ---- all that one picks up
 

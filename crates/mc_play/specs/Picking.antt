@@ -8,7 +8,9 @@ use lib.IntN.{ℤ}
 use Rattle.mc_fields.specs.declared.position.Spot.{Spot}
 use Rattle.mc_slots.specs.declared.pile.Item.{Item}
 use Rattle.mc_entities.specs.declared.entity.Entity.{Entity}
+use Rattle.mc_entities.specs.Folk.{eid_of}
 use Rattle.mc_entities.specs.Kinds.{is_dropped}
+use Rattle.mc_entities.specs.Numbers.{without_all}
 use Rattle.mc_model.specs.declared.player.Player.{Player}
 use Rattle.mc_model.specs.Game.{Game}
 use Rattle.mc_model.specs.Pickups.{pick_up, playing_as, ripe, stowed}
@@ -25,6 +27,10 @@ picker players e = if is_dropped e.kind then None else playing_as e.eid (entries
 -- an item goes into the pack of the player of a connection, if it has one
 abbrev pub stowed_by : ℕ → Game → ℤ × Item → Game
 stowed_by k g e = by_player k (λ (p : Player). stowed p e) g
+
+-- a game without the entities of some numbers
+abbrev pub without_those : List ℤ → Game → Game
+without_those gone g = record g { entities = without_all eid_of gone g.entities }
 
 -- several go there, one after another
 abbrev pub all_stowed : ℕ → List (ℤ × Item) → Game → Game

@@ -9,7 +9,8 @@ ghost use Rattle.mc_entities.specs.declared.entity.EntityKind as kinds;
 ghost use Rattle.mc_entities.specs.declared.entity.EntityKind.TheVariants as variants;
 ghost use Rattle.mc_entities.specs.declared.entity.TheConstants.{EID_MAX};
 ghost use Rattle.mc_entities.specs.Folk.{HasRoom, entity_of, mobs_in, new_state, placed, removed};
-ghost use Rattle.mc_entities.specs.Folk.{room_of, settled, spawned, ticked, with_entity, with_kind};
+ghost use Rattle.mc_entities.specs.Folk.{removed_all, room_of, settled, spawned, ticked};
+ghost use Rattle.mc_entities.specs.Folk.{with_entity, with_kind};
 ghost use Rattle.mc_entities.specs.Kinds.{IsKind, are_alike};
 ghost use Rattle.mc_entities.specs.Plans.{asked};
 ghost use Rattle.mc_model.specs.declared.mobs.TheConstants.{MOBS_MAX};
@@ -29,6 +30,7 @@ use mc_land::Terrain;
 use mc_model::{Eid, mob_spot, spawn_spot};
 use mc_slots::{Item, Pile};
 use std::alloc::Global;
+use std::collections::BTreeSet;
 use std::marker::Model;
 
 /// The mobs, the players in play and the dropped items, each where its column can be shown.
@@ -195,6 +197,13 @@ impl Entities {
         ensures { self.new.state ≡ removed eid self.old.state }
     {
         let _gone = self.folk.remove(eid);
+    }
+
+    /// Takes the ones of numbers out, in one pass over all.
+    pub fn take_all(&mut self, eids: &BTreeSet<i32>)
+        ensures { self.new.state ≡ removed_all eids.now.keys self.old.state }
+    {
+        self.folk.remove_all(eids);
     }
 
     /// Makes what lies under a number another item, which was dropped when the first was.

@@ -13,6 +13,7 @@ use mc_entities::{Entity, EntityKind, Folk, FolkFault, Move};
 use mc_fields::Spot;
 use mc_rows::{Answer, Words, look_up};
 use mc_slots::Pile;
+use std::collections::BTreeSet;
 use std::mem::replace;
 
 /// A call of a folk.
@@ -24,6 +25,7 @@ enum Call {
     Spawn,
     Strew,
     Remove,
+    Clear,
     Place,
     Kind,
     Shift,
@@ -34,13 +36,14 @@ enum Call {
 }
 
 /// The calls by their words.
-const CALLS: [(&str, Call); 13] = [
+const CALLS: [(&str, Call); 14] = [
     ("new", Call::New),
     ("room", Call::Room),
     ("reserve", Call::Reserve),
     ("spawn", Call::Spawn),
     ("strew", Call::Strew),
     ("remove", Call::Remove),
+    ("clear", Call::Clear),
     ("place", Call::Place),
     ("kind", Call::Kind),
     ("shift", Call::Shift),
@@ -64,7 +67,7 @@ pub fn folk(folk: &mut Folk, words: &mut Words<'_>, answer: &mut Answer) {
 }
 
 /// Answers a call of the folk.
-/// Dear to prove: thirteen arms over a folk that is lent.
+/// Dear to prove: fourteen arms over a folk that is lent.
 fn answer_call(call: Call, folk: &mut Folk, words: &mut Words<'_>, answer: &mut Answer) {
     match call {
         Call::New => drop(replace(folk, Folk::new(words.alloc))),
@@ -73,6 +76,7 @@ fn answer_call(call: Call, folk: &mut Folk, words: &mut Words<'_>, answer: &mut 
         Call::Spawn => spawn(folk, words, answer),
         Call::Strew => strew(folk, words, answer),
         Call::Remove => remove(folk, words, answer),
+        Call::Clear => clear(folk, words, answer),
         Call::Place => place(folk, words, answer),
         Call::Kind => set_kind(folk, words, answer),
         Call::Shift => shift(folk, words, answer),
@@ -159,6 +163,17 @@ fn spawn_all(folk: &mut Folk, count: u32, kind: EntityKind, spot: Spot) -> u32
 fn remove(folk: &mut Folk, words: &mut Words<'_>, answer: &mut Answer) {
     let gone = folk.remove(words.number());
     put_found(gone.as_ref(), answer);
+}
+
+/// Takes the entities of the next words' numbers out, of which 64 are read at most.
+fn clear(folk: &mut Folk, words: &mut Words<'_>, answer: &mut Answer) {
+    let mut eids = BTreeSet::new(words.alloc);
+    for _ in 0..64 {
+        if words.is_more() && eids.insert(words.number()).is_err() {
+            answer.lose();
+        }
+    }
+    folk.remove_all(&eids);
 }
 
 /// Puts an entity at a spot, and says whether there is one.

@@ -4,9 +4,9 @@ ghost use Rattle.std.specs.Prelude.{◌≡◌, ◌++◌, ◌≤◌, ◌∷◌, [
 ghost use Rattle.std.specs.List.{filter_map};
 ghost use Rattle.mc_slots.specs.Pile.{IsItem, IsPile, pile_of};
 ghost use Rattle.mc_model.specs.Deeds.{lessened};
-ghost use Rattle.mc_model.specs.Pickups.{pick_up, pickers, pickups, ripe_for, stowed};
+ghost use Rattle.mc_model.specs.Pickups.{pick_up, pickers, pickups, ripe_for};
 ghost use Rattle.mc_play.specs.Kept.{by_player, played};
-ghost use Rattle.mc_play.specs.Picking.{all_picked, all_stowed, picker};
+ghost use Rattle.mc_play.specs.Picking.{all_picked, all_stowed, picker, stowed_by, without_those};
 
 use crate::Players;
 use crate::game::Game;
@@ -17,6 +17,7 @@ use mc_model::Player;
 use mc_slots::{Item, Pile, split};
 use mc_windows::store;
 use std::alloc::Global;
+use std::collections::BTreeSet;
 
 /// So many of an item, of which there are as many at least.
 fn some_of(item: Item, count: u8) -> Pile
@@ -73,32 +74,45 @@ fn pickers_among(
 impl Game {
     // ---- one item
 
-    /// Makes what lies under a number so much; it goes where that is nothing.
-    fn lessen(&mut self, eid: i32, left: Pile)
+    /// Makes what lies under a number so much; where that is nothing, its number is put among those
+    /// that go.
+    fn lessen(&mut self, eid: i32, left: Pile, gone: &mut BTreeSet<i32>) -> Result<(), NoMemory>
         requires { IsPile left }
-        ensures is { self.new ≡ played self.old (lessened eid left self.old.game) self.new.aside }
+        ensures is { OnOk result (without_those gone.new.keys self.new.game
+            ≡ lessened eid left (without_those gone.old.keys self.old.game)) }
+        ensures rest { self.new ≡ played self.old self.new.game self.new.aside }
         ensures ready { self.new.aside.ready ≡ self.old.aside.ready }
     {
         match left {
-            Pile::Empty => self.entities.take_away(eid),
+            Pile::Empty => {
+                gone.insert(eid)?;
+            }
             Pile::Full(item) => self.entities.lie_as(eid, item),
         }
+        Ok(())
     }
 
     /// Puts an item into the pack of the player of a connection as far as that has room, if it has
-    /// one; what is left of it stays there.
-    fn stow(&mut self, connection: u32, found: Ripe)
-        ensures is { self.new ≡ played self.old (by_player connection
-            (λ p. stowed p found) self.old.game) self.new.aside }
+    /// one; what is left of it stays there, and where nothing is its number is put among those that
+    /// go.
+    fn stow(
+        &mut self,
+        connection: u32,
+        found: Ripe,
+        gone: &mut BTreeSet<i32>,
+    ) -> Result<(), NoMemory>
+        ensures is { OnOk result (without_those gone.new.keys self.new.game
+            ≡ stowed_by connection (without_those gone.old.keys self.old.game) found) }
+        ensures rest { self.new ≡ played self.old self.new.game self.new.aside }
         ensures ready { self.new.aside.ready ≡ self.old.aside.ready }
     {
         let Some(player) = self.players.find(connection) else {
-            return;
+            return Ok(());
         };
         let mut pack = self.pack_of(player);
         let left = store(&mut pack, found.item);
         self.repack(connection, pack);
-        self.lessen(found.eid, some_of(found.item, left));
+        self.lessen(found.eid, some_of(found.item, left), gone)
     }
 
     // ---- all that one can
@@ -111,15 +125,39 @@ impl Game {
         ripe_among(self.alloc, self.age, &spot, self.entities.folk().all())
     }
 
-    /// Puts items into the pack of the player of a connection, one after another, if it has one.
-    fn stow_all(&mut self, connection: u32, found: &[Ripe])
-        ensures is { self.new ≡ played self.old
-            (all_stowed connection found.now self.old.game) self.new.aside }
+    /// Puts items into the pack of the player of a connection, one after another, if it has one,
+    /// and the numbers of those of which nothing is left among those that go.
+    fn stow_all(
+        &mut self,
+        connection: u32,
+        found: &[Ripe],
+        gone: &mut BTreeSet<i32>,
+    ) -> Result<(), NoMemory>
+        ensures is { OnOk result (without_those gone.new.keys self.new.game
+            ≡ all_stowed connection found.now (without_those gone.old.keys self.old.game)) }
+        ensures rest { self.new ≡ played self.old self.new.game self.new.aside }
         ensures ready { self.new.aside.ready ≡ self.old.aside.ready }
     {
         for ripe in found {
-            self.stow(connection, *ripe);
+            self.stow(connection, *ripe, gone)?;
         }
+        Ok(())
+    }
+
+    /// Puts items into the pack of the player of a connection, one after another, if it has one.
+    /// Those of which nothing is left go in one pass over all entities.
+    fn take_all(&mut self, connection: u32, found: &[Ripe]) -> Result<(), NoMemory>
+        ensures is { OnOk result (self.new ≡ played self.old
+            (all_stowed connection found.now self.old.game) self.new.aside) }
+        ensures ready { OnOk result (self.new.aside.ready ≡ self.old.aside.ready) }
+    {
+        if found.is_empty() {
+            return Ok(());
+        }
+        let mut gone = BTreeSet::new(self.alloc);
+        self.stow_all(connection, found, &mut gone)?;
+        self.entities.take_all(&gone);
+        Ok(())
     }
 
     /// Lets the player of a connection pick up what it can, if it has one.
@@ -132,8 +170,7 @@ impl Game {
             return Ok(());
         };
         let found = self.ripe_for(player)?;
-        self.stow_all(connection, found.as_slice());
-        Ok(())
+        self.take_all(connection, found.as_slice())
     }
 
     // ---- all players
