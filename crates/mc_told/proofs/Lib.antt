@@ -1,4 +1,5 @@
 pub mod EntityFrames
+pub mod KeptRows
 pub mod Ordered
 pub mod Parts
 pub mod Rising

@@ -1,3 +1,4 @@
+pub mod KeptRows
 pub mod Telling
 pub mod RowCode
 pub mod EntityFrames

@@ -3,13 +3,14 @@ ghost use Rattle.std.specs.Option.{option_copied};
 ghost use Rattle.std.specs.List.{fold};
 ghost use Rattle.std.specs.FinMap as map;
 ghost use Rattle.mc_entities.specs.Kinds.{IsKind};
-ghost use Rattle.mc_told.specs.EntityFrames.{AreEncoded, found_move, found_spawn, no_entities};
+ghost use Rattle.mc_told.specs.EntityFrames.{AreEncoded, found_spawn, no_entities};
 ghost use Rattle.mc_told.specs.EntityFrames.{with_frames_of, with_move, with_spawn};
 
 mod fields;
 
 use crate::moved::Moved;
 use crate::moves::{is_still, moves_piece};
+use crate::numbered::{place_near, put_row};
 use crate::row::{Row, entity_row};
 use crate::spawned::Spawned;
 use crate::spawns::spawn_piece;
@@ -26,8 +27,8 @@ use std::marker::Model;
 /// by number the move of one that was told then, and by number what shows one that came since.
 #[derive(Drop)]
 pub struct EncodedEntities {
-    /// By number, the move of an entity.
-    moves: BTreeMap<i32, Moved>,
+    /// By rising number, the move of an entity.
+    moves: Vec<(i32, Moved)>,
     /// By number, what shows an entity that is new.
     spawns: BTreeMap<i32, Spawned>,
     /// How many bytes the frames of moves are, for who makes room for some of them.
@@ -35,17 +36,20 @@ pub struct EncodedEntities {
 }
 
 impl Model for EncodedEntities {
-    ghost use Rattle.std.specs.FinMap.{from_entries};
+    ghost use Rattle.std.specs.FinMap.{from_entries, from_sorted};
     ghost use Rattle.mc_told.specs.EntityFrames.{EntitiesValue, coded_entities};
+    ghost use Rattle.mc_told.specs.KeptRows.{IsRising};
 
     ghost Value = { EntitiesValue };
 
     ghost coded = { coded_entities };
 
     ghost view = { λ e. record {
-      moves = from_entries e.moves.entries;
+      moves = from_sorted e.moves.items;
       spawns = from_entries e.spawns.entries;
     } };
+
+    ghost invariant = { λ e. IsRising e.moves.items };
 }
 
 impl EncodedEntities {
@@ -55,7 +59,7 @@ impl EncodedEntities {
         ensures frames { AreEncoded result }
     {
         EncodedEntities {
-            moves: BTreeMap::new(alloc),
+            moves: Vec::new(alloc),
             spawns: BTreeMap::new(alloc),
             size: 0,
         }
@@ -102,7 +106,7 @@ impl EncodedEntities {
             frames: moves_piece(alloc, entity.eid, from, &entity.spot)?,
         };
         let size = moved.frames.len();
-        self.moves.insert(entity.eid, moved)?;
+        put_row(&mut self.moves, entity.eid, moved)?;
         self.size = self.size.saturating_add(size);
         Ok(())
     }
@@ -127,11 +131,16 @@ impl EncodedEntities {
         self.size
     }
 
-    /// What was encoded of the move of the entity of a number.
-    fn move_of(&self, eid: i32) -> Option<&Moved>
-        ensures { option_copied result ≡ map.get self.now.moves eid }
+    /// What was encoded of the move of the entity of a number, which is looked for at one place
+    /// first, and where that of the next number is best looked for.
+    #[inline]
+    pub(crate) fn move_near(&self, near: usize, eid: i32) -> (Option<&Moved>, usize)
+        ensures { option_copied result.0 ≡ map.get self.now.moves eid }
     {
-        self.moves.get(&eid)
+        match place_near(self.moves.as_slice(), near, eid) {
+            Ok(at) => (Some(&self.moves[at].1), at + 1),
+            Err(at) => (None, at),
+        }
     }
 
     /// What was encoded to show the entity of a number.
@@ -139,19 +148,6 @@ impl EncodedEntities {
         ensures { option_copied result ≡ map.get self.now.spawns eid }
     {
         self.spawns.get(&eid)
-    }
-
-    /// The frames of an entity's move from one spot to another, None exactly where that was not
-    /// encoded.
-    pub(crate) fn moved(&self, eid: i32, from: &Spot, to: &Spot) -> Option<&Bytes>
-        ensures { option_copied result ≡ found_move self.now eid from.now to.now }
-    {
-        let moved = self.move_of(eid)?;
-        if moved.is(from, to) {
-            Some(&moved.frames)
-        } else {
-            None
-        }
     }
 
     /// The frames that show an entity as it is to be shown, None exactly where those of it were not

@@ -19,6 +19,7 @@ ghost use Rattle.mc_told.specs.Telling.{entity_frames, gone_from, rows_in, rows_
 ghost use Rattle.mc_told.specs.Telling.{with_rows};
 
 use crate::EncodedEntities;
+use crate::encoded_looks::EncodedLooks;
 use crate::known::put_shown;
 use crate::row::is_in;
 use bytes::Bytes;
@@ -97,13 +98,15 @@ fn put_entity(
     view: &EntityView<'_>,
     area: &Area,
     entity: &Entity,
+    encoded: &mut EncodedLooks<'_>,
     told: &mut Looks<'_>,
     now: &mut Tracker,
     out: &mut Vec<u8>,
 ) -> Result<(), NoMemory>
     requires area { area.now ≡ view.now.view }
     requires kind { IsKind entity.now.kind }
-    requires frames { AreEncoded view.now.encoded.now }
+    requires frames { AreEncoded encoded.old }
+    ensures encoded { OnOk result (encoded.new ≡ encoded.old) }
     ensures same { OnOk result (told.new ≡ told.old) }
     ensures sent { OnOk result (out.new.items ≡ out.old.items ++ play_bytes (rows_packets told.old
         (rows_in view.now.view (others view.now.me (entity.now ∷ []))))) }
@@ -116,7 +119,7 @@ fn put_entity(
     if !is_in(area, entity) {
         return Ok(());
     }
-    put_shown(view.encoded, entity, told, now, out)?;
+    put_shown(encoded, entity, told, now, out)?;
     Ok(())
 }
 
@@ -137,9 +140,10 @@ fn put_entities(
         (rows_in view.now.view (others view.now.me entities.now))) }
 {
     let area = Area::of(&view.view);
+    let mut encoded = EncodedLooks::new(view.encoded);
     let mut looks = told.looks();
     for entity in entities {
-        put_entity(view, &area, entity, &mut looks, now, out)?;
+        put_entity(view, &area, entity, &mut encoded, &mut looks, now, out)?;
     }
     Ok(())
 }

@@ -8,7 +8,7 @@ ghost use Rattle.mc_told.specs.EntityFrames.{AreEncoded};
 ghost use Rattle.mc_sending.specs.Sending.{play_bytes};
 ghost use Rattle.mc_told.specs.Telling.{entity_row, kind_of, pile_of, row_packets, told_as, with_row};
 
-use crate::EncodedEntities;
+use crate::encoded_looks::EncodedLooks;
 use crate::moves::put_moves;
 use crate::piles::put_pile;
 use crate::row::{Row, entity_row, pile_of};
@@ -34,14 +34,15 @@ fn put_other(row: &Row, was: &Pile, out: &mut Vec<u8>) -> Result<(), NoMemory>
 /// Appends what differs of a row of which a client was told where it was and which pile it held or
 /// was.
 fn put_changed(
-    encoded: &EncodedEntities,
+    encoded: &mut EncodedLooks<'_>,
     row: &Row,
     was: &(Spot, Pile),
     out: &mut Vec<u8>,
 ) -> Result<(), NoMemory>
     requires pile { IsPile row.now.pile }
-    requires frames { AreEncoded encoded.now }
-    ensures { OnOk result (out.new.items ≡ out.old.items ++ play_bytes
+    requires frames { AreEncoded encoded.old }
+    ensures same { encoded.new ≡ encoded.old }
+    ensures sent { OnOk result (out.new.items ≡ out.old.items ++ play_bytes
         (entity_packets row.now.eid (Some (told_as row.now.kind was.now))
         (told_as row.now.kind (row.now.spot, row.now.pile)))) }
 {
@@ -61,7 +62,7 @@ fn is_as_told(entity: &Entity, pile: &Pile, was: &(Spot, Pile)) -> bool
 /// Appends what differs of an entity of which a client was told where it was and which pile it held
 /// or was. Of most nothing does, and they need no more than these comparisons.
 fn put_known(
-    encoded: &EncodedEntities,
+    encoded: &mut EncodedLooks<'_>,
     entity: &Entity,
     pile: &Pile,
     was: &(Spot, Pile),
@@ -69,8 +70,9 @@ fn put_known(
 ) -> Result<(), NoMemory>
     requires kind { IsKind entity.now.kind }
     requires pile { pile.now ≡ pile_of entity.now.kind }
-    requires frames { AreEncoded encoded.now }
-    ensures { OnOk result (out.new.items ≡ out.old.items ++ play_bytes
+    requires frames { AreEncoded encoded.old }
+    ensures same { encoded.new ≡ encoded.old }
+    ensures sent { OnOk result (out.new.items ≡ out.old.items ++ play_bytes
         (entity_packets entity.now.eid (Some (told_as (kind_of entity.now.kind) was.now))
         (told_as (kind_of entity.now.kind) (entity.now.spot, pile_of entity.now.kind)))) }
 {
@@ -82,14 +84,15 @@ fn put_known(
 
 /// Appends what a client that was told something of entities is to be told of one, and keeps that.
 pub fn put_shown(
-    encoded: &EncodedEntities,
+    encoded: &mut EncodedLooks<'_>,
     entity: &Entity,
     told: &mut Looks<'_>,
     now: &mut Tracker,
     out: &mut Vec<u8>,
 ) -> Result<(), NoMemory>
     requires kind { IsKind entity.now.kind }
-    requires frames { AreEncoded encoded.now }
+    requires frames { AreEncoded encoded.old }
+    ensures encoded { OnOk result (encoded.new ≡ encoded.old) }
     ensures same { OnOk result (told.new ≡ told.old) }
     ensures sent { OnOk result (out.new.items
         ≡ out.old.items ++ play_bytes (row_packets told.old (entity_row entity.now))) }

@@ -7,10 +7,12 @@
 
 mod clock;
 mod encoded_entities;
+mod encoded_looks;
 mod entities;
 mod known;
 mod moved;
 mod moves;
+mod numbered;
 mod packets;
 mod piles;
 mod row;

@@ -6,7 +6,7 @@ ghost use Rattle.mc_model.specs.Delta.{head_packets, move_packets, moves_packets
 ghost use Rattle.mc_told.specs.EntityFrames.{AreEncoded, is_still, move_bytes};
 ghost use Rattle.mc_sending.specs.Sending.{play_bytes};
 
-use crate::EncodedEntities;
+use crate::encoded_looks::EncodedLooks;
 use crate::packets::{head_look, jump, step, step_turn, turn};
 use bytes::Bytes;
 use mc_bytes::NoMemory;
@@ -71,14 +71,15 @@ pub fn moves_piece(alloc: Global, eid: i32, from: &Spot, to: &Spot) -> Result<By
 /// Appends the frames that tell a client that an entity moved from one spot to another: those that
 /// were encoded, where it is that move, by one copy.
 pub fn put_moves(
-    encoded: &EncodedEntities,
+    encoded: &mut EncodedLooks<'_>,
     eid: i32,
     from: &Spot,
     to: &Spot,
     out: &mut Vec<u8>,
 ) -> Result<(), NoMemory>
-    requires { AreEncoded encoded.now }
-    ensures { OnOk result (out.new.items
+    requires { AreEncoded encoded.old }
+    ensures same { encoded.new ≡ encoded.old }
+    ensures sent { OnOk result (out.new.items
         ≡ out.old.items ++ play_bytes (moves_packets eid to.now (moves_of from.now to.now))) }
 {
     // Most stand still, and need no more than this comparison.

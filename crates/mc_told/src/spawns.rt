@@ -7,7 +7,7 @@ ghost use Rattle.mc_model.specs.declared.seen.SeenKind.TheVariants as seen_kinds
 ghost use Rattle.mc_sending.specs.Sending.{play_bytes};
 ghost use Rattle.mc_told.specs.EntityFrames.{AreEncoded, spawn_bytes};
 
-use crate::EncodedEntities;
+use crate::encoded_looks::EncodedLooks;
 use crate::packets::{head_look, mob, object, player};
 use crate::piles::{no_flags, put_pile};
 use crate::row::Row;
@@ -100,7 +100,7 @@ pub fn spawn_piece(alloc: Global, row: &Row) -> Result<Bytes, NoMemory>
 
 /// Appends the frames that show an entity to a client that does not know it: those that were
 /// encoded, where they show it so, by one copy.
-pub fn put_new(encoded: &EncodedEntities, row: &Row, out: &mut Vec<u8>) -> Result<(), NoMemory>
+pub fn put_new(encoded: &EncodedLooks<'_>, row: &Row, out: &mut Vec<u8>) -> Result<(), NoMemory>
     requires pile { IsPile row.now.pile }
     requires frames { AreEncoded encoded.now }
     ensures { OnOk result (out.new.items ≡ out.old.items ++ spawn_bytes row.now) }

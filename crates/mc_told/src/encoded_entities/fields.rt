@@ -10,7 +10,7 @@ use std::collections::BTreeMap;
 /// Names every field of encoded entities.
 fn name_fields(encoded: &EncodedEntities) {
     every_field!(encoded: EncodedEntities {
-        moves: BTreeMap<i32, Moved>,
+        moves: Vec<(i32, Moved)>,
         spawns: BTreeMap<i32, Spawned>,
         size: usize,
     });

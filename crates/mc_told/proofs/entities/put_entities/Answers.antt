@@ -4,7 +4,7 @@ use Rattle.mc_told.proofs.Told.{step_kept, step_sent}
 use Rattle.mc_told.proofs.entities.put_entities.Goals as goal
 
 pub loop-entity-init : goal.loop-entity-init
-loop-entity-init c = record { looks = c.looks-looks.ensures; sent = refl; kept = refl }
+loop-entity-init c = record { encoded = c.new-encoded.ensures; looks = c.looks-looks.ensures; sent = refl; kept = refl }
 
 pub loop-entity-preserved : goal.loop-entity-preserved
 loop-entity-preserved c =
@@ -14,6 +14,7 @@ loop-entity-preserved c =
     let h = c.loop-entity.invariant in
     let is = drop_more es i _ c.loop-entity-test.true in
     record {
+      encoded = c.in_ok-put_entity.ensures.encoded ∙ h.encoded;
       looks = c.in_ok-put_entity.ensures.same ∙ h.looks;
       sent = step_sent v.view v.me _ (drop i es) (drop (i + 1) es) is c.args.told.now
           c.loop-entity.looks c.loop-entity.out.items c.put_entity.new.out.items _ h.looks

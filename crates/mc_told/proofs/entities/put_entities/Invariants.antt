@@ -7,6 +7,7 @@ use Rattle.mc_told.proofs.entities.put_entities.Given as goal
 -- what was sent and what is left make all, and so does what is kept
 abbrev pub invariant-loop-entity : goal.invariant-loop-entity
 invariant-loop-entity l = record {
+  encoded : l.encoded ≡ l.view.encoded.now;
   looks : l.looks ≡ l.told;
   sent : l.out.items ++ play_bytes (rows_packets l.told (rows_in l.view.view (others l.view.me
       (drop l.entity-index l.entities)))) ≡ l.initial.out.items ++ play_bytes (rows_packets

@@ -9,8 +9,8 @@ use Rattle.mc_sending.specs.Sending.{play_bytes}
 use Rattle.mc_sending.proofs.Pieces.{play_bytes-append, two_put}
 use Rattle.mc_told.proofs.known.put_changed.Goals as goal
 
-pub returns : goal.returns
-returns c =
+pub returns-clause-sent : goal.returns-clause-sent
+returns-clause-sent c =
     let row = c.args.row.now in
     let was = c.args.was.now in
     let old = c.args.out.now.items in
@@ -20,7 +20,7 @@ returns c =
     let pile = pile_packets row.eid row.kind (slot_of was.1) (slot_of row.pile) in
     two_put old c.put_moves.new.out.items c.put_other.new.out.items (play_bytes moves)
     (play_bytes pile)
-    (c.in_ok-put_moves.ensures ∙ ap (λ (k : ℤ). old ++ play_bytes (moves_packets k row.spot
+    (c.in_ok-put_moves.ensures.sent ∙ ap (λ (k : ℤ). old ++ play_bytes (moves_packets k row.spot
     (moves_of was.0 row.spot))) same)
     c.in_ok-put_other.ensures
     ∙ ap (λ (t : List ℕ). old ++ t) (sym (play_bytes-append moves pile))

@@ -9,8 +9,8 @@ use Rattle.mc_told.specs.Telling.{kind_of, pile_of, told_as}
 use Rattle.mc_told.proofs.SameRows.{unchanged}
 use Rattle.mc_told.proofs.known.put_known.Goals as goal
 
-pub returns-then-is_as_told : goal.returns-then-is_as_told
-returns-then-is_as_told c =
+pub returns-then-is_as_told-clause-sent : goal.returns-then-is_as_told-clause-sent
+returns-then-is_as_told-clause-sent c =
     let e = c.args.entity.now in
     let out = c.args.out.now.items in
     let kind = kind_of e.kind in

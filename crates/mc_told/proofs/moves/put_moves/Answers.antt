@@ -10,19 +10,19 @@ use Rattle.mc_told.proofs.EntityFrames.{move_found}
 use Rattle.mc_told.proofs.SameRows.{unmoved}
 use Rattle.mc_told.proofs.moves.put_moves.Goals as goal
 
-pub returns-in_ok-extend_from_slice-in-Some : goal.returns-in_ok-extend_from_slice-in-Some
-returns-in_ok-extend_from_slice-in-Some c =
+pub returns-in_ok-extend_from_slice-in-Some-clause-sent : goal.returns-in_ok-extend_from_slice-in-Some-clause-sent
+returns-in_ok-extend_from_slice-in-Some-clause-sent c =
     let encoded = c.args.encoded.now in
     let from = c.args.from.now in
     let to = c.args.to.now in
     let is = move_found encoded c.args.eid from to c.in-Some.frames.now c.requires
-    (c.in-Some.ensures
+    (c.in-Some.ensures.is
     ∙ ap (λ (k : ℤ). found_move encoded k from to) (to_z-of_z w32 c.args.eid c.ranges.eid)) in
     c.in_ok-extend_from_slice-in-Some.ensures.items
     ∙ ap (λ (bytes : List ℕ). c.args.out.now.items ++ bytes) (c.deref.ensures ∙ is)
 
-pub returns-then-eq : goal.returns-then-eq
-returns-then-eq c =
+pub returns-then-eq-clause-sent : goal.returns-then-eq-clause-sent
+returns-then-eq-clause-sent c =
     let out = c.args.out.now.items in
     let none = unmoved c.args.eid c.args.from.now c.args.to.now (sym c.eq.ensures ∙ c.if-eq.true) in
     sym (ap (λ (packets : List Down). out ++ play_bytes packets) none ∙ append-nil out)

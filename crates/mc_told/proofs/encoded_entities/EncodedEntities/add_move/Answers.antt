@@ -1,15 +1,12 @@
 use Rattle.std.proofs.Common.{◌≡◌, ℕ, List, false, rules, FitsSigned, sym, ap, subst, ◌∙◌}
 use Rattle.std.specs.Int.{w32}
 use Rattle.std.specs.Ordering.{int_cmp}
-use Rattle.std.specs.FinMap.{FinMap, from_entries, insert, int_cmp-IsAntisymmetric}
-use Rattle.std.proofs.lemmas.Cmp.{int_cmp_total}
+use Rattle.std.specs.FinMap.{FinMap, from_entries, from_sorted, insert}
 use Rattle.std.proofs.lemmas.Int.{to_z-of_z}
 use lib.IntN.{ℤ}
-use mir.Val.{to_z, of_z}
 use Rattle.mc_view.specs.Forms.{form_of}
 use Rattle.mc_told.specs.declared.moved.Moved.{Moved}
 use Rattle.mc_told.specs.EntityFrames.{AreEncoded, EntitiesValue, is_still, move_bytes, move_of}
-use Rattle.mc_bytes.proofs.Trees.{entry_put}
 use Rattle.mc_told.proofs.EntityFrames.{move_added, move_more}
 use Rattle.mc_told.proofs.encoded_entities.EncodedEntities.add_move.Goals as goal
 
@@ -17,7 +14,7 @@ pub returns-clause-ok : goal.returns-clause-ok
 returns-clause-ok c =
     let e = c.args.entity.now in
     let from = c.args.from.now in
-    let es = c.self.inside.moves.entries in
+    let es = c.self.inside.moves.items in
     let fits : FitsSigned w32 e.eid = search rules in
     let same = to_z-of_z w32 e.eid fits in
     let goes : is_still (form_of from e.spot) ≡ false = search rules in
@@ -25,11 +22,9 @@ returns-clause-ok c =
     let is : moved ≡ move_of from e =
     ap (λ (frames : List ℕ). record { from = from; to = e.spot; frames = frames })
     (c.in_ok-moves_piece.ensures ∙ ap (λ (k : ℤ). move_bytes k from e.spot) same) in
-    let put : from_entries {R = int_cmp} c.insert.new.self.entries
-    ≡ insert (from_entries es) e.eid (move_of from e) =
-    entry_put int_cmp_total int_cmp-IsAntisymmetric es c.insert.new.self.entries
-    (to_z w32 (of_z w32 e.eid)) moved (λ q. c.in_ok-insert.ensures.updates.0 q)
-    ∙ (λ i. insert (from_entries es) (same i) (is i)) in
+    let put : from_sorted {R = int_cmp} c.put_row.new.rows.items
+    ≡ insert (from_sorted es) e.eid (move_of from e) =
+    c.in_ok-put_row.ensures.ok ∙ (λ i. insert (from_sorted es) (same i) (is i)) in
     ap (λ (m : FinMap int_cmp Moved). record {
       moves = m;
       spawns = from_entries c.self.inside.spawns.entries;

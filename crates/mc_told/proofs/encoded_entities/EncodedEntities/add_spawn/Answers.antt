@@ -1,7 +1,7 @@
 use Rattle.std.proofs.Common.{◌≡◌, ℕ, List, rules, FitsSigned, sym, ap, subst, ◌∙◌}
 use Rattle.std.specs.Int.{w32}
 use Rattle.std.specs.Ordering.{int_cmp}
-use Rattle.std.specs.FinMap.{FinMap, from_entries, insert, int_cmp-IsAntisymmetric}
+use Rattle.std.specs.FinMap.{FinMap, from_entries, from_sorted, insert, int_cmp-IsAntisymmetric}
 use Rattle.std.proofs.lemmas.Cmp.{int_cmp_total}
 use Rattle.std.proofs.lemmas.Int.{to_z-of_z}
 use mir.Val.{to_z, of_z}
@@ -29,7 +29,7 @@ returns-clause-ok c =
     (to_z w32 (of_z w32 e.eid)) spawned (λ q. c.in_ok-insert.ensures.updates.0 q)
     ∙ (λ i. insert (from_entries es) (same i) (is i)) in
     ap (λ (m : FinMap int_cmp Spawned). record {
-      moves = from_entries c.self.inside.moves.entries;
+      moves = from_sorted c.self.inside.moves.items;
       spawns = m;
     }) put
     ∙ ap (λ (v : EntitiesValue). record v { spawns = insert v.spawns e.eid (spawn_of e) })

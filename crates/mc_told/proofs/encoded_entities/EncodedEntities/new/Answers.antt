@@ -1,15 +1,21 @@
-use Rattle.std.proofs.Common.{List, [], sym, subst}
-use Rattle.std.specs.FinMap.{from_entries}
+use Rattle.std.proofs.Common.{◌≡◌, List, ◌∙◌, ap, sym, subst}
+use Rattle.std.specs.Ordering.{int_cmp}
+use Rattle.std.specs.FinMap.{from_entries, from_sorted}
 use lib.IntN.{ℤ}
 use Rattle.mc_told.specs.declared.moved.Moved.{Moved}
 use Rattle.mc_told.specs.declared.spawned.Spawned.{Spawned}
 use Rattle.mc_told.specs.EntityFrames.{AreEncoded}
 use Rattle.mc_told.proofs.EntityFrames.{none_encoded}
+use Rattle.mc_told.proofs.KeptRows.{none_kept}
 use Rattle.mc_told.proofs.encoded_entities.EncodedEntities.new.Goals as goal
 
+pub returns-clause-is : goal.returns-clause-is
+returns-clause-is c =
+    let moves : from_sorted {R = int_cmp} c.new.result.items ≡ _ =
+    ap (λ (es : List (ℤ × Moved)). from_sorted {R = int_cmp} es) c.new.ensures.items ∙ none_kept in
+    let spawns = ap (λ (es : List (ℤ × Spawned)). from_entries {R = int_cmp} es)
+    c.new-2.ensures.empty in
+    λ i. record { moves = moves i; spawns = spawns i }
+
 pub returns-clause-frames : goal.returns-clause-frames
-returns-clause-frames c =
-    let P : List (ℤ × Moved) → List (ℤ × Spawned) → Type 0 = λ es fs.
-    AreEncoded (record { moves = from_entries es; spawns = from_entries fs }) in
-    subst (λ es. P es c.new-2.result.entries) (sym c.new.ensures.empty)
-    (subst (λ fs. P [] fs) (sym c.new-2.ensures.empty) none_encoded)
+returns-clause-frames c = subst AreEncoded (sym (returns-clause-is c)) none_encoded
