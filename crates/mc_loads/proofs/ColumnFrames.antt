@@ -14,17 +14,15 @@ use Rattle.mc_land.specs.Land.{LandValue}
 use Rattle.mc_land.proofs.Orders.{places_total}
 use Rattle.mc_packets.specs.declared.down.Down.{Down}
 use Rattle.mc_view.specs.declared.view_set.ViewSet.{ViewSet}
-use Rattle.mc_view.specs.Sets.{is_within}
 use Rattle.mc_sending.specs.Sending.{play_bytes}
 use Rattle.mc_sending.proofs.Pieces.{play_bytes-append}
 use Rattle.mc_loads.specs.Columns.{changed_packets, entered_of, left_of, load_packets}
-use Rattle.mc_loads.specs.Columns.{place_packets, packets_between, stayed_among, stayed_of}
+use Rattle.mc_loads.specs.Columns.{place_packets, packets_between, stayed_of, staying, stays}
 use Rattle.mc_loads.specs.Columns.{unload_packets}
 use Rattle.mc_loads.specs.ColumnFrames.{AreColumnFrames, ColumnsValue, change_bytes, change_cost}
 use Rattle.mc_loads.specs.ColumnFrames.{changes_cost, has_changes, has_load, is_clean, load_bytes}
 use Rattle.mc_loads.specs.ColumnFrames.{load_cost, no_columns, unencoded, with_changes, with_load}
 use Rattle.mc_loads.proofs.Places.{same_place}
-use Rattle.std.proofs.lemmas.Bool.Decides.{nat_tests}
 
 same_bytes : (a b : List ℕ) → Some a ≡ Some b → b ≡ a
 same_bytes a b e = sym cc
@@ -141,52 +139,52 @@ next_within now after total encoded left rest x is all few =
 
 -- ---- changed cells, column by column
 
--- what is sent of a column and of those behind it
-pub changed_next : (land : LandValue) (was : Option ViewSet) (x : Place) (rest : List Place) →
-    play_bytes (changed_packets land (stayed_among was (x ∷ rest)))
-    ≡ play_bytes (changed_packets land (stayed_among was (x ∷ [])))
-    ++ play_bytes (changed_packets land (stayed_among was rest))
-changed_next land was x rest = elim (is_within was x) as (λ b.
-    play_bytes (changed_packets land (cond b (x ∷ stayed_among was rest) (stayed_among was rest)))
-    ≡ play_bytes (changed_packets land (cond b (x ∷ []) []))
-    ++ play_bytes (changed_packets land (stayed_among was rest))) [
-      | true ↦ play_bytes-append (place_packets land x)
-          (changed_packets land (stayed_among was rest))
-          ∙ ap (λ (ds : List Down). play_bytes ds
-          ++ play_bytes (changed_packets land (stayed_among was rest)))
-          (sym (append-nil (place_packets land x)))
-      | false ↦ refl
-    ]
+module _ (land : LandValue) (was : Option ViewSet) (view : ViewSet) where
+  -- what is sent of a column and of those behind it
+  pub changed_next : (x : Place) (rest : List Place) →
+      play_bytes (changed_packets land (staying was view (x ∷ rest)))
+      ≡ play_bytes (changed_packets land (staying was view (x ∷ [])))
+      ++ play_bytes (changed_packets land (staying was view rest))
+  changed_next x rest =
+      let later : List Place = staying was view rest in
+      elim (stays was view x) as (λ b. play_bytes (changed_packets land (cond b (x ∷ later) later))
+      ≡ play_bytes (changed_packets land (cond b (x ∷ []) []))
+      ++ play_bytes (changed_packets land later)) [
+        | true ↦ play_bytes-append (place_packets land x) (changed_packets land later)
+            ∙ ap (λ (ds : List Down). play_bytes ds ++ play_bytes (changed_packets land later))
+            (sym (append-nil (place_packets land x)))
+        | false ↦ refl
+      ]
 
--- and what the looks at them cost
-pub cost_next : (encoded : ColumnsValue) (land : LandValue) (was : Option ViewSet) (x : Place)
-    (rest : List Place) →
-    changes_cost encoded land (stayed_among was (x ∷ rest))
-    ≡ changes_cost encoded land (stayed_among was (x ∷ []))
-    + changes_cost encoded land (stayed_among was rest)
-cost_next encoded land was x rest = elim (is_within was x) as (λ b.
-    changes_cost encoded land (cond b (x ∷ stayed_among was rest) (stayed_among was rest))
-    ≡ changes_cost encoded land (cond b (x ∷ []) [])
-    + changes_cost encoded land (stayed_among was rest)) [
-      | true ↦ let one : sum_by (change_cost encoded land) (x ∷ stayed_among was rest)
-          ≡ sum_by (change_cost encoded land) (x ∷ [])
-          + sum_by (change_cost encoded land) (stayed_among was rest) =
-          sum_by-append (change_cost encoded land) (x ∷ []) (stayed_among was rest) in one
-      | false ↦ sym (zero-add (changes_cost encoded land (stayed_among was rest)))
-    ]
+  -- and what the looks at them cost
+  pub cost_next : (encoded : ColumnsValue) (x : Place) (rest : List Place) →
+      changes_cost encoded land (staying was view (x ∷ rest))
+      ≡ changes_cost encoded land (staying was view (x ∷ []))
+      + changes_cost encoded land (staying was view rest)
+  cost_next encoded x rest =
+      let later : List Place = staying was view rest in
+      elim (stays was view x) as (λ b. changes_cost encoded land (cond b (x ∷ later) later)
+      ≡ changes_cost encoded land (cond b (x ∷ []) []) + changes_cost encoded land later) [
+        | true ↦ let one : sum_by (change_cost encoded land) (x ∷ later)
+            ≡ sum_by (change_cost encoded land) (x ∷ [])
+            + sum_by (change_cost encoded land) later =
+            sum_by-append (change_cost encoded land) (x ∷ []) later in one
+        | false ↦ sym (zero-add (changes_cost encoded land later))
+      ]
 
--- one column that was shown
-pub changed_one : (land : LandValue) (was : Option ViewSet) (x : Place) (piece : List ℕ) →
-    is_within was x ≡ true → piece ≡ change_bytes land x →
-    piece ≡ play_bytes (changed_packets land (stayed_among was (x ∷ [])))
-changed_one land was x piece t is = grind (arith, nat_tests)
+  -- one column that stays
+  pub changed_one : (x : Place) (piece : List ℕ) → stays was view x ≡ true →
+      piece ≡ change_bytes land x →
+      piece ≡ play_bytes (changed_packets land (staying was view (x ∷ [])))
+  changed_one x piece t is =
+      is ∙ sym (ap (λ (b : Bool). play_bytes (changed_packets land (cond b (x ∷ []) []))) t
+      ∙ ap play_bytes (append-nil (place_packets land x)))
 
--- and what it costs
-pub cost_one : (encoded : ColumnsValue) (land : LandValue) (was : Option ViewSet) (x : Place) →
-    is_within was x ≡ true →
-    changes_cost encoded land (stayed_among was (x ∷ [])) ≡ change_cost encoded land x
-cost_one encoded land was x t =
-    ap (λ (b : Bool). changes_cost encoded land (cond b (x ∷ []) [])) t ∙ omega arith
+  -- and what it costs
+  pub cost_one : (encoded : ColumnsValue) (x : Place) → stays was view x ≡ true →
+      changes_cost encoded land (staying was view (x ∷ [])) ≡ change_cost encoded land x
+  cost_one encoded x t =
+      ap (λ (b : Bool). changes_cost encoded land (cond b (x ∷ []) [])) t ∙ omega arith
 
 -- all of columns
 pub columns_put : (land : LandValue) (was : Option ViewSet) (view : ViewSet)

@@ -1,5 +1,5 @@
 -- What one client is shown of columns, and the packets of what differs from what it was shown.
-use Rattle.std.specs.Prelude.{◌≡◌, ℕ, true, List, [], ◌++◌, map, Option, Some, None}
+use Rattle.std.specs.Prelude.{◌≡◌, ◌&&◌, ℕ, Bool, true, List, [], ◌++◌, map, Option, Some, None}
 use Rattle.std.specs.List.{filter, flat_map}
 use Rattle.std.specs.FinMap.{FinMap}
 use Rattle.std.specs.FinSet as set
@@ -10,7 +10,7 @@ use Rattle.mc_land.specs.Places.{Place, IsPlace, key_cmp}
 use Rattle.mc_land.specs.Land.{LandValue, states_of, biomes_of, dirty_in}
 use Rattle.mc_packets.specs.declared.down.Down.{Down}
 use Rattle.mc_view.specs.declared.view_set.ViewSet.{ViewSet}
-use Rattle.mc_view.specs.Sets.{all_of, is_within, lacking}
+use Rattle.mc_view.specs.Sets.{all_of, has, is_within, lacking}
 use Rattle.mc_model.specs.Delta.{cell_packets, load, unload}
 
 -- a column of a terrain with these edits, under its place
@@ -31,12 +31,16 @@ abbrev pub entered_of : Option ViewSet → ViewSet → List Place
 entered_of None view = all_of view
 entered_of (Some old) view = lacking view old
 
--- of some columns those that were shown, and of a view those that stay
-abbrev pub stayed_among : Option ViewSet → List Place → List Place
-stayed_among was places = filter (is_within was) places
-
+-- those of a view that were shown
 abbrev pub stayed_of : Option ViewSet → ViewSet → List Place
-stayed_of was view = stayed_among was (all_of view)
+stayed_of was view = filter (is_within was) (all_of view)
+
+-- a column that is in view and was shown, and those of some columns that are such
+abbrev pub stays : Option ViewSet → ViewSet → Place → Bool
+stays was view place = has view place && is_within was place
+
+abbrev pub staying : Option ViewSet → ViewSet → List Place → List Place
+staying was view places = filter (stays was view) places
 
 abbrev pub unload_packets : List Place → List Down
 unload_packets places = map unload places

@@ -6,7 +6,7 @@ ghost use Rattle.mc_land.specs.Places.{IsPlace};
 ghost use Rattle.mc_sending.specs.Sending.{play_bytes};
 ghost use Rattle.mc_view.specs.Sets.{is_within};
 ghost use Rattle.mc_loads.specs.Columns.{IsReady, changed_packets, entered_of, left_of};
-ghost use Rattle.mc_loads.specs.Columns.{load_packets, packets_between, stayed_among};
+ghost use Rattle.mc_loads.specs.Columns.{load_packets, packets_between, stayed_of, staying, stays};
 ghost use Rattle.mc_loads.specs.Columns.{unload_packets};
 ghost use Rattle.mc_loads.specs.ColumnFrames.{AreColumnFrames, change_bytes, change_cost};
 ghost use Rattle.mc_loads.specs.ColumnFrames.{changes_cost, load_bytes, load_cost, looks};
@@ -55,6 +55,13 @@ impl ColumnsView<'_> {
             Some(view) => view.has(place.0, place.1),
             None => false,
         }
+    }
+
+    /// Whether a column is in view and was shown.
+    fn stays(&self, place: &(i32, i32)) -> bool
+        ensures { result ≡ stays self.now.was self.now.view place.now }
+    {
+        self.view.has(place.0, place.1) && self.has(place)
     }
 
     /// The frame that loads the column of a place. It looks at the cells where that was not
@@ -135,7 +142,7 @@ impl ColumnsView<'_> {
         }
     }
 
-    /// Appends the frames of the changed cells of a column, if it was shown.
+    /// Appends the frames of the changed cells of a column, if it is in view and was shown.
     fn push_stayed<L: Ledger>(
         &self,
         alloc: Global,
@@ -146,37 +153,37 @@ impl ColumnsView<'_> {
         requires place { IsPlace place.now }
         requires frames { AreColumnFrames self.now.land.now self.now.encoded.now }
         ensures sent { OnOk result (joined out.new.items ≡ joined out.old.items ++ play_bytes
-            (changed_packets self.now.land.now (stayed_among self.now.was (place.now ∷ [])))) }
+            (changed_packets self.now.land.now
+            (staying self.now.was self.now.view (place.now ∷ [])))) }
         ensures cost { OnOk result (steps.new ≡ steps.old + changes_cost self.now.encoded.now
-            self.now.land.now (stayed_among self.now.was (place.now ∷ []))) }
+            self.now.land.now (staying self.now.was self.now.view (place.now ∷ []))) }
         ensures bounded { steps.new ≤ steps.old + changes_cost self.now.encoded.now
-            self.now.land.now (stayed_among self.now.was (place.now ∷ [])) }
+            self.now.land.now (staying self.now.was self.now.view (place.now ∷ [])) }
     {
-        if !self.has(place) {
+        if !self.stays(place) {
             return Ok(());
         }
         push_piece(self.changes(alloc, place, steps)?, out)
     }
 
-    /// Appends the frames of the changed cells of the columns that were shown.
+    /// Appends the frames of the changed cells of the columns that stay in view. It goes through
+    /// those columns alone of which a cell changed.
     fn push_changed<L: Ledger>(
         &self,
         alloc: Global,
-        columns: Columns,
         out: &mut Vec<Bytes>,
         steps: &mut Steps<L>,
     ) -> Result<(), NoMemory>
-        requires places { AllByRecursion IsPlace columns }
-        requires frames { AreColumnFrames self.now.land.now self.now.encoded.now }
+        requires { AreColumnFrames self.now.land.now self.now.encoded.now }
         ensures sent { OnOk result (joined out.new.items ≡ joined out.old.items ++ play_bytes
-            (changed_packets self.now.land.now (stayed_among self.now.was columns))) }
+            (changed_packets self.now.land.now (stayed_of self.now.was self.now.view))) }
         ensures cost { OnOk result (steps.new ≡ steps.old + changes_cost self.now.encoded.now
-            self.now.land.now (stayed_among self.now.was columns)) }
+            self.now.land.now (stayed_of self.now.was self.now.view)) }
         ensures bounded { steps.new ≤ steps.old + changes_cost self.now.encoded.now
-            self.now.land.now (stayed_among self.now.was columns) }
+            self.now.land.now (stayed_of self.now.was self.now.view) }
     {
-        for place in columns {
-            self.push_stayed(alloc, &place, out, steps)?;
+        for place in self.land.touched() {
+            self.push_stayed(alloc, place, out, steps)?;
         }
         Ok(())
     }
@@ -201,6 +208,6 @@ impl ColumnsView<'_> {
     {
         self.push_left(alloc, out)?;
         self.push_loads(alloc, self.entered(), out, steps)?;
-        self.push_changed(alloc, self.view.all(), out, steps)
+        self.push_changed(alloc, out, steps)
     }
 }
