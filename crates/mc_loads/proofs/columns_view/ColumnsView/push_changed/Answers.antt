@@ -13,7 +13,8 @@ use Rattle.mc_loads.proofs.columns_view.ColumnsView.push_changed.Goals as goal
 pub loop-place-init : goal.loop-place-init
 loop-place-init g c = record {
   places = subst (AllByRecursion IsPlace)
-      (sym c.into_iter-place-iterator.ensures.into_iter_gives.0) c.touched-place-items.ensures.inside;
+      (sym c.into_iter-place-iterator.ensures.into_iter_gives.0)
+      c.touched-place-items.ensures.inside;
   sent = search rules;
   cost = search rules;
 }
@@ -65,8 +66,8 @@ returns-in_err-push_stayed-clause-bounded g c =
       ap (λ (places : List Place). changes_cost v.encoded.now v.land.now
           (staying v.was v.view places)) c.into_iter-place-iterator.ensures.into_iter_gives.0,
       cost_next v.land.now v.was v.view v.encoded.now c.in-Some.place.now c.next.new.self,
-      cost_touched v.land.now c.touched-place-items.result.now.keys c.touched-place-items.ensures v.encoded.now v.was
-          v.view,
+      cost_touched v.land.now c.touched-place-items.result.now.keys
+          c.touched-place-items.ensures v.encoded.now v.was v.view,
       c.push_stayed.ensures.bounded,
     )
 
@@ -74,9 +75,9 @@ pub returns-clause-sent : goal.returns-clause-sent
 returns-clause-sent g c =
     let v = c.args.self.now in
     let none : c.loop-place.place-iterator ≡ [] = search rules in
-    all_sent v.land.now c.touched-place-items.result.now.keys c.touched-place-items.ensures v.was v.view
-    (joined c.loop-place.out.items) (joined c.args.out.now.items) c.loop-place.place-iterator
-    c.into_iter-place-iterator.result none
+    all_sent v.land.now c.touched-place-items.result.now.keys c.touched-place-items.ensures
+    v.was v.view (joined c.loop-place.out.items) (joined c.args.out.now.items)
+    c.loop-place.place-iterator c.into_iter-place-iterator.result none
     c.into_iter-place-iterator.ensures.into_iter_gives.0 c.loop-place.invariant.sent
 
 pub returns-clause-cost : goal.returns-clause-cost
@@ -90,8 +91,8 @@ returns-clause-cost g c =
           (staying v.was v.view places)) none,
       ap (λ (places : List Place). changes_cost v.encoded.now v.land.now
           (staying v.was v.view places)) c.into_iter-place-iterator.ensures.into_iter_gives.0,
-      cost_touched v.land.now c.touched-place-items.result.now.keys c.touched-place-items.ensures v.encoded.now v.was
-          v.view,
+      cost_touched v.land.now c.touched-place-items.result.now.keys
+          c.touched-place-items.ensures v.encoded.now v.was v.view,
     )
 
 pub returns-clause-bounded : goal.returns-clause-bounded
