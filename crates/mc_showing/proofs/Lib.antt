@@ -3,6 +3,7 @@ pub mod ColumnFacts
 pub mod SceneFacts
 pub mod ReadyFacts
 pub mod LookFacts
+pub mod TouchedLooks
 pub mod AheadFacts
 pub mod RosterFacts
 pub mod Mapped

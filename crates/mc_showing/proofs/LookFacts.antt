@@ -11,6 +11,7 @@ use Rattle.mc_land.specs.Places.{Place, is_height, key_cmp}
 use Rattle.mc_land.specs.Land.{LandValue}
 use Rattle.mc_view.specs.declared.view_set.ViewSet.{ViewSet}
 use Rattle.mc_view.specs.Sets.{all_of, is_within}
+use Rattle.mc_loads.specs.Columns.{staying, stays}
 use Rattle.mc_flush.specs.Encoding.{EncodedValue, change_cost, has_changes, has_load, load_cost}
 use Rattle.mc_flush.specs.Encoding.{looks_at, with_changes, with_load}
 use Rattle.mc_flush.specs.Seeing.{MarkValue, loaded}
@@ -18,7 +19,7 @@ use Rattle.mc_model.specs.Notes.{is_sent}
 use Rattle.mc_model.specs.declared.player.Player.{Player}
 use Rattle.mc_model.specs.Game.{Game, sees}
 use Rattle.mc_play.specs.Kept.{GameValue, land_of}
-use Rattle.mc_showing.specs.Ahead.{prepared, with_all_changes, with_loads, with_shown_changes}
+use Rattle.mc_showing.specs.Ahead.{prepared, with_all_changes, with_loads, with_stayed_changes}
 use Rattle.mc_showing.specs.Around.{IsAround, kept_columns}
 use Rattle.mc_showing.specs.Looking.{cells_of, changed_in, note_looks, noted_looks, view_looks}
 use Rattle.mc_showing.specs.Preparing.{Prepares}
@@ -45,22 +46,18 @@ pub loads_as : (v u : GameValue) (old : EncodedValue) (places : List Place) → 
 loads_as v u old places same = λ i. with_loads (cells_of (same.settled i) (same.game i)) old places
 
 pub changes_as : (v u : GameValue) (land : LandValue) (old new : EncodedValue)
-    (was : Option ViewSet) (places : List Place) → land ≡ land_of u → Prepares v u →
-    new ≡ with_shown_changes land was old places →
-    new ≡ with_shown_changes (cells_of v.settled v.game) was old places
-changes_as v u land old new was places is same put =
-    put ∙ ap (λ (l : LandValue). with_shown_changes l was old places) is ∙ alike u places old
-    ∙ (λ i. with_shown_changes (cells_of (same.settled i) (same.game i)) was old places)
+    (places : List Place) → land ≡ land_of u → Prepares v u →
+    new ≡ with_all_changes land old places →
+    new ≡ with_all_changes (cells_of v.settled v.game) old places
+changes_as v u land old new places is same put =
+    put ∙ ap (λ (l : LandValue). with_all_changes l old places) is ∙ alike u places old
+    ∙ (λ i. with_all_changes (cells_of (same.settled i) (same.game i)) old places)
   where
-    each : (u : GameValue) (places : List Place) (e : EncodedValue) →
-        with_all_changes (land_of u) e places ≡ with_all_changes (cells_of u.settled u.game) e places
-    each u [] e = refl
-    each u (place ∷ places) e = each u places (with_changes e (land_of u) place)
-
     alike : (u : GameValue) (places : List Place) (e : EncodedValue) →
-        with_shown_changes (land_of u) was e places
-        ≡ with_shown_changes (cells_of u.settled u.game) was e places
-    alike u places e = each u (filter (is_within was) places) e
+        with_all_changes (land_of u) e places
+        ≡ with_all_changes (cells_of u.settled u.game) e places
+    alike u [] e = refl
+    alike u (place ∷ places) e = alike u places (with_changes e (land_of u) place)
 
 pub changed_as : (v u : GameValue) (land : LandValue) (places : List Place) → land ≡ land_of u →
     Prepares v u → sum_by (changed_in land) places
@@ -109,111 +106,105 @@ columns_within now after total x left rest is all few =
 
 -- ---- changed cells, column by column
 
-module _ (land : LandValue) (was : Option ViewSet) where
-  shown_next : (x : Place) (rest : List Place) (e : EncodedValue) →
-      with_shown_changes land was e (x ∷ rest)
-      ≡ with_shown_changes land was (with_shown_changes land was e (x ∷ [])) rest
-  shown_next x rest e = elim (is_within was x) as (λ b.
-      with_all_changes land e (cond b (x ∷ filter (is_within was) rest) (filter (is_within was)
-      rest))
-      ≡ with_all_changes land (with_all_changes land e (cond b (x ∷ []) []))
-      (filter (is_within was) rest)) [
+module _ (land : LandValue) (was : Option ViewSet) (view : ViewSet) where
+  stayed_next : (x : Place) (rest : List Place) (e : EncodedValue) →
+      with_stayed_changes land was view e (x ∷ rest)
+      ≡ with_stayed_changes land was view (with_stayed_changes land was view e (x ∷ [])) rest
+  stayed_next x rest e =
+      let later : List Place = staying was view rest in
+      elim (stays was view x) as (λ b. with_all_changes land e (cond b (x ∷ later) later)
+      ≡ with_all_changes land (with_all_changes land e (cond b (x ∷ []) [])) later) [
         | true ↦ refl
         | false ↦ refl
       ]
 
   pub changes_next : (now after total : EncodedValue) (x : Place) (left rest : List Place) →
-      left ≡ x ∷ rest → with_shown_changes land was now left ≡ total →
-      after ≡ with_shown_changes land was now (x ∷ []) →
-      with_shown_changes land was after rest ≡ total
+      left ≡ x ∷ rest → with_stayed_changes land was view now left ≡ total →
+      after ≡ with_stayed_changes land was view now (x ∷ []) →
+      with_stayed_changes land was view after rest ≡ total
   changes_next now after total x left rest is all put =
-      ap (λ (e : EncodedValue). with_shown_changes land was e rest) put
-      ∙ sym (shown_next x rest now) ∙ ap (with_shown_changes land was now) (sym is) ∙ all
+      ap (λ (e : EncodedValue). with_stayed_changes land was view e rest) put
+      ∙ sym (stayed_next x rest now) ∙ ap (with_stayed_changes land was view now) (sym is) ∙ all
 
   pub changes_done : (now total : EncodedValue) (left : List Place) → left ≡ [] →
-      with_shown_changes land was now left ≡ total → now ≡ total
+      with_stayed_changes land was view now left ≡ total → now ≡ total
   changes_done now total left none all =
-      ap (with_shown_changes land was now) (sym none) ∙ all
+      ap (with_stayed_changes land was view now) (sym none) ∙ all
 
-  abbrev shown_cost : List Place → ℕ
-  shown_cost places = sum_by (changed_in land) (filter (is_within was) places)
+  abbrev pub stayed_cost : List Place → ℕ
+  stayed_cost places = sum_by (changed_in land) (staying was view places)
 
   cost_next : (x : Place) (rest : List Place) →
-      shown_cost (x ∷ rest) ≡ shown_cost (x ∷ []) + shown_cost rest
+      stayed_cost (x ∷ rest) ≡ stayed_cost (x ∷ []) + stayed_cost rest
   cost_next x rest =
-      let later : List Place = filter (is_within was) rest in
-      elim (is_within was x) as (λ b. sum_by (changed_in land) (cond b (x ∷ later) later)
+      let later : List Place = staying was view rest in
+      elim (stays was view x) as (λ b. sum_by (changed_in land) (cond b (x ∷ later) later)
       ≡ sum_by (changed_in land) (cond b (x ∷ []) []) + sum_by (changed_in land) later) [
         | true ↦ sum_by-append (changed_in land) (x ∷ []) later
         | false ↦ omega arith
       ]
 
   pub looks_next : (now after total : ℕ) (x : Place) (left rest : List Place) →
-      left ≡ x ∷ rest → now + shown_cost left ≤ total → after ≤ now + shown_cost (x ∷ []) →
-      after + shown_cost rest ≤ total
+      left ≡ x ∷ rest → now + stayed_cost left ≤ total → after ≤ now + stayed_cost (x ∷ []) →
+      after + stayed_cost rest ≤ total
   looks_next now after total x left rest is all few =
-      let whole : shown_cost left ≡ shown_cost (x ∷ []) + shown_cost rest =
-      ap shown_cost is ∙ cost_next x rest in
+      let whole : stayed_cost left ≡ stayed_cost (x ∷ []) + stayed_cost rest =
+      ap stayed_cost is ∙ cost_next x rest in
       omega (arith, whole, all, few)
 
   pub looks_within : (now after total : ℕ) (x : Place) (left rest : List Place) →
-      left ≡ x ∷ rest → now + shown_cost left ≤ total → after ≤ now + shown_cost (x ∷ []) →
+      left ≡ x ∷ rest → now + stayed_cost left ≤ total → after ≤ now + stayed_cost (x ∷ []) →
       after ≤ total
   looks_within now after total x left rest is all few =
       omega (arith, looks_next now after total x left rest is all few)
 
-  -- one that was not shown
-  pub not_shown : (x : Place) (e : EncodedValue) → is_within was x ≡ false →
-      e ≡ with_shown_changes land was e (x ∷ [])
-  not_shown x e t = sym (ap (λ (b : Bool). with_all_changes land e (cond b (x ∷ []) [])) t)
+  -- one that does not stay
+  pub not_stayed : (x : Place) (e : EncodedValue) → stays was view x ≡ false →
+      e ≡ with_stayed_changes land was view e (x ∷ [])
+  not_stayed x e t = sym (ap (λ (b : Bool). with_all_changes land e (cond b (x ∷ []) [])) t)
 
-  -- and one that was
-  pub one_shown : (x : Place) (old new : EncodedValue) → is_within was x ≡ true →
-      new ≡ with_changes old land x → new ≡ with_shown_changes land was old (x ∷ [])
-  one_shown x old new t put =
+  -- and one that does
+  pub one_stayed : (x : Place) (old new : EncodedValue) → stays was view x ≡ true →
+      new ≡ with_changes old land x → new ≡ with_stayed_changes land was view old (x ∷ [])
+  one_stayed x old new t put =
       put ∙ sym (ap (λ (b : Bool). with_all_changes land old (cond b (x ∷ []) [])) t)
 
-  pub one_looked : (x : Place) (now after : ℕ) (e : EncodedValue) → is_within was x ≡ true →
-      after ≤ now + change_cost e land x → after ≤ now + shown_cost (x ∷ [])
+  pub one_looked : (x : Place) (now after : ℕ) (e : EncodedValue) → stays was view x ≡ true →
+      after ≤ now + change_cost e land x → after ≤ now + stayed_cost (x ∷ [])
   one_looked x now after e t few =
-      let cost : shown_cost (x ∷ []) ≡ changed_in land x =
+      let cost : stayed_cost (x ∷ []) ≡ changed_in land x =
       ap (λ (b : Bool). sum_by (changed_in land) (cond b (x ∷ []) [])) t ∙ omega arith in
       step (has_changes e x) cost few
     where
-      step : (b : Bool) → shown_cost (x ∷ []) ≡ changed_in land x →
-          after ≤ now + cond b 0 (changed_in land x) → after ≤ now + shown_cost (x ∷ [])
+      step : (b : Bool) → stayed_cost (x ∷ []) ≡ changed_in land x →
+          after ≤ now + cond b 0 (changed_in land x) → after ≤ now + stayed_cost (x ∷ [])
       step true cost few = omega (arith, few)
       step false cost few = omega (arith, cost, few)
 
 -- ---- a view
 
-module _ (v u : GameValue) (land : LandValue) (was : Option ViewSet)
-    (entered came all view : List Place) (is : land ≡ land_of u) (same : Prepares v u)
-    (comes : entered ≡ came) (are : all ≡ view) where
+module _ (v u : GameValue) (land : LandValue) (entered came stayed : List Place)
+    (is : land ≡ land_of u) (same : Prepares v u) (comes : entered ≡ came) where
   abbrev cells_at : LandValue
   cells_at = cells_of v.settled v.game
 
   pub view_prepared : (old mid new : EncodedValue) → mid ≡ with_loads cells_at old entered →
-      new ≡ with_shown_changes land was mid all →
-      new ≡ with_shown_changes cells_at was (with_loads cells_at old came) view
+      new ≡ with_all_changes land mid stayed →
+      new ≡ with_all_changes cells_at (with_loads cells_at old came) stayed
   view_prepared old mid new loaded changed =
-      changes_as v u land mid new was all is same changed
-      ∙ (λ i. with_shown_changes cells_at was (loaded i) (are i))
-      ∙ ap (λ (places : List Place). with_shown_changes cells_at was
-      (with_loads cells_at old places) view) comes
+      changes_as v u land mid new stayed is same changed
+      ∙ (λ i. with_all_changes cells_at (loaded i) stayed)
+      ∙ ap (λ (places : List Place). with_all_changes cells_at
+      (with_loads cells_at old places) stayed) comes
 
   pub view_within : (now mid after : ℕ) → mid ≤ now + cells * length entered →
-      after ≤ mid + sum_by (changed_in land) (filter (is_within was) all) →
-      after ≤ now + (cells * length came
-      + sum_by (changed_in cells_at) (filter (is_within was) view))
+      after ≤ mid + sum_by (changed_in land) stayed →
+      after ≤ now + (cells * length came + sum_by (changed_in cells_at) stayed)
   view_within now mid after loads changes =
       let first : cells * length entered ≡ cells * length came =
       ap (λ (places : List Place). cells * length places) comes in
-      let second : sum_by (changed_in land) (filter (is_within was) all)
-      ≡ sum_by (changed_in cells_at) (filter (is_within was) view) =
-      changed_as v u land (filter (is_within was) all) is same
-      ∙ ap (λ (places : List Place). sum_by (changed_in cells_at) (filter (is_within was) places))
-      are in
+      let second : sum_by (changed_in land) stayed ≡ sum_by (changed_in cells_at) stayed =
+      changed_as v u land stayed is same in
       omega (arith, first, second, loads, changes)
 
 -- where memory ran out before any change was looked at

@@ -1,12 +1,12 @@
 -- What is encoded ahead of the flushes of a tick, once for all clients. Rules of this project.
 use Rattle.std.specs.Prelude.{ℕ, List, Option, Some, None}
 use Rattle.std.specs.FinMap.{FinMap}
-use Rattle.std.specs.List.{filter, fold}
+use Rattle.std.specs.List.{fold}
 use Rattle.mc_land.specs.Places.{Place, key_cmp}
 use Rattle.mc_land.specs.Land.{LandValue}
 use Rattle.mc_entities.specs.Folk.{FolkState}
 use Rattle.mc_view.specs.declared.view_set.ViewSet.{ViewSet}
-use Rattle.mc_view.specs.Sets.{is_within}
+use Rattle.mc_loads.specs.Columns.{staying}
 use Rattle.mc_flush.specs.Encoding.{EncodedValue, nothing_encoded, with_changes}
 use Rattle.mc_flush.specs.Encoding.{with_entity_frames, with_load, with_players}
 use Rattle.mc_flush.specs.Lists.{ListValue}
@@ -30,11 +30,11 @@ abbrev pub with_all_changes : LandValue → EncodedValue → List Place → Enco
 with_all_changes land encoded places = fold
     (λ (e : EncodedValue) place. with_changes e land place) encoded places
 
--- those of the columns that were shown
-abbrev pub with_shown_changes : LandValue → Option ViewSet → EncodedValue → List Place →
+-- those of the columns that are in view and were shown
+abbrev pub with_stayed_changes : LandValue → Option ViewSet → ViewSet → EncodedValue → List Place →
     EncodedValue
-with_shown_changes land was encoded places =
-    with_all_changes land encoded (filter (is_within was) places)
+with_stayed_changes land was view encoded places =
+    with_all_changes land encoded (staying was view places)
 
 -- for a player, if there is one: the load of each column that comes, and the changed cells of each
 -- that stays

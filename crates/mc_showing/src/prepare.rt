@@ -8,13 +8,13 @@ ghost use Rattle.mc_column.specs.Sizes.{cells};
 ghost use Rattle.mc_land.specs.Land.{LandValue};
 ghost use Rattle.mc_land.specs.Places.{IsPlace};
 ghost use Rattle.mc_view.specs.Sets.{all_of, is_within};
-ghost use Rattle.mc_loads.specs.Columns.{IsReady};
+ghost use Rattle.mc_loads.specs.Columns.{IsReady, staying, stays};
 ghost use Rattle.mc_flush.specs.Encoding.{AreFrames, with_entity_frames, with_load, with_players};
 ghost use Rattle.mc_flush.specs.Lists.{ListValue};
 ghost use Rattle.mc_flush.specs.Seeing.{loaded};
 ghost use Rattle.mc_play.specs.Kept.{land_of};
 ghost use Rattle.mc_showing.specs.Ahead.{begun, prepared, with_all_changes, with_loads};
-ghost use Rattle.mc_showing.specs.Ahead.{with_shown_changes};
+ghost use Rattle.mc_showing.specs.Ahead.{with_stayed_changes};
 ghost use Rattle.mc_showing.specs.Looking.{cells_of, changed_in, view_looks};
 ghost use Rattle.mc_showing.specs.Preparing.{IsReadyFor, Prepares};
 
@@ -115,11 +115,19 @@ fn was_shown(mark: &Mark, place: &(i32, i32)) -> bool
     }
 }
 
-/// Encodes the changed cells of a column, if a client was shown it before.
+/// Whether a column is in view and a client was shown it.
+fn stays(mark: &Mark, view: &ViewSet, place: &(i32, i32)) -> bool
+    ensures { result ≡ stays mark.now.view view.now place.now }
+{
+    view.has(place.0, place.1) && was_shown(mark, place)
+}
+
+/// Encodes the changed cells of a column, if it is in view and a client was shown it before.
 fn prepare_change<L: Ledger>(
     alloc: Global,
     land: &Land,
     encoded: &mut Encoded,
+    view: &ViewSet,
     mark: &Mark,
     place: &(i32, i32),
     steps: &mut Steps<L>,
@@ -127,36 +135,36 @@ fn prepare_change<L: Ledger>(
     requires { IsPlace place.now }
     ensures frames { (list : ListValue) → AreFrames land.now list encoded.old
         → AreFrames land.now list encoded.new }
-    ensures changed { OnOk result (encoded.new
-        ≡ with_shown_changes land.now mark.now.view encoded.old (place.now ∷ [])) }
+    ensures changed { OnOk result (encoded.new ≡ with_stayed_changes land.now
+        mark.now.view view.now encoded.old (place.now ∷ [])) }
     ensures bounded { steps.new ≤ steps.old
-        + sum_by (changed_in land.now) (filter (is_within mark.now.view) (place.now ∷ [])) }
+        + sum_by (changed_in land.now) (staying mark.now.view view.now (place.now ∷ [])) }
 {
-    if !was_shown(mark, place) {
+    if !stays(mark, view, place) {
         return Ok(());
     }
     encoded.add_changes(alloc, land, place, steps)
 }
 
-/// Encodes the changed cells of those of some columns that a client was shown before.
+/// Encodes the changed cells of those columns of a view that a client was shown before. It goes
+/// through those columns alone of which a cell changed.
 fn prepare_changes<L: Ledger>(
     alloc: Global,
     land: &Land,
     encoded: &mut Encoded,
+    view: &ViewSet,
     mark: &Mark,
-    columns: Columns,
     steps: &mut Steps<L>,
 ) -> Result<(), NoMemory>
-    requires { AllByRecursion IsPlace columns }
     ensures frames { (list : ListValue) → AreFrames land.now list encoded.old
         → AreFrames land.now list encoded.new }
-    ensures changed { OnOk result (encoded.new
-        ≡ with_shown_changes land.now mark.now.view encoded.old columns) }
+    ensures changed { OnOk result (encoded.new ≡ with_all_changes land.now encoded.old
+        (filter (is_within mark.now.view) (all_of view.now))) }
     ensures bounded { steps.new ≤ steps.old
-        + sum_by (changed_in land.now) (filter (is_within mark.now.view) columns) }
+        + sum_by (changed_in land.now) (filter (is_within mark.now.view) (all_of view.now)) }
 {
-    for place in columns {
-        prepare_change(alloc, land, encoded, mark, &place, steps)?;
+    for place in land.touched() {
+        prepare_change(alloc, land, encoded, view, mark, place, steps)?;
     }
     Ok(())
 }
@@ -185,7 +193,7 @@ fn prepare_view<L: Ledger>(
         (filter (is_within mark.now.view) (all_of view.now))) }
 {
     prepare_columns(alloc, game, encoded, mark.entered(view), steps)?;
-    prepare_changes(alloc, game.land(), encoded, mark, view.all(), steps)
+    prepare_changes(alloc, game.land(), encoded, view, mark, steps)
 }
 
 /// Makes the columns ready that the client of a connection is to be shown and was not, and encodes
