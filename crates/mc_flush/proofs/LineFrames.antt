@@ -1,9 +1,16 @@
 -- What was encoded of lines stays their frames as more are encoded, and so is what is found of it.
 use Rattle.std.proofs.Common.{◌≡◌, ℕ, zero, suc, List, [], ◌∷◌, ◌++◌, ◌<◌, sym, subst, ap, ◌∙◌}
-use Rattle.std.proofs.Common.{append_assoc, arith, get_or, length, map}
+use Rattle.std.proofs.Common.{Option, None, Some, IfSome, append_assoc, arith, get_or, length, map}
+use Rattle.std.proofs.Common.{◌+◌, drop, refl}
+use Rattle.std.proofs.lemmas.List.{drop_more}
 use Rattle.std.specs.List.{AllByRecursion}
+use Rattle.mc_model.specs.Delta.{chat_packet}
+use Rattle.mc_sending.specs.Sending.{play_bytes}
+use Rattle.mc_sending.proofs.Pieces.{play_bytes-append}
 use Rattle.mc_flush.specs.declared.encoded_line.EncodedLine.{EncodedLine}
-use Rattle.mc_flush.specs.LineFrames.{AreLines, IsLineFrame, framed, with_texts}
+use Rattle.mc_flush.specs.LineFrames.{AreLines, IsLineFrame, all_frames, framed, texts_of}
+use Rattle.mc_flush.specs.LineFrames.{with_texts}
+use Rattle.mc_flush.specs.Seeing.{line_packets}
 
 -- what holds of all and of one more
 pub all_joined : {A : Type 0} (P : A → Type 0) (xs : List A) (x : A) → AllByRecursion P xs → P x →
@@ -26,3 +33,36 @@ pub line_at : (lines : List EncodedLine) (i : ℕ) (line : EncodedLine) → AreL
 line_at [] i line all lt is = absurd (omega (arith, lt))
 line_at (x ∷ lines) zero line all lt is = subst IsLineFrame (sym is) all.0
 line_at (x ∷ lines) (suc i) line all lt is = line_at lines i line all.1 (omega (arith, lt)) is
+
+-- ---- all of them as one piece
+
+-- lines have the texts that are left where the first has the first, and the others the others
+pub texts_next : (lines : List EncodedLine) (texts : List (List ℕ)) (i : ℕ) (line : EncodedLine)
+    (text : List ℕ) → i < length lines → i < length texts → line ≡ get_or lines i line →
+    text ≡ get_or texts i text → line.text ≡ text →
+    texts_of (drop (i + 1) lines) ≡ drop (i + 1) texts → texts_of (drop i lines) ≡ drop i texts
+texts_next lines texts i line text lt also line_is text_is same rest =
+    ap texts_of (drop_more lines i line lt
+    ∙ ap (λ (x : EncodedLine). x ∷ drop (i + 1) lines) (sym line_is))
+    ∙ ap (λ (t : List ℕ). t ∷ texts_of (drop (i + 1) lines)) same
+    ∙ ap (λ (ts : List (List ℕ)). text ∷ ts) rest
+    ∙ ap (λ (t : List ℕ). t ∷ drop (i + 1) texts) text_is
+    ∙ sym (drop_more texts i text also)
+
+-- the frames of all are those of their texts
+pub frames_are : (lines : List EncodedLine) → AreLines lines →
+    all_frames lines ≡ play_bytes (line_packets (texts_of lines))
+frames_are [] are = refl
+frames_are (x ∷ lines) are = rw (
+  are.0,
+  frames_are lines are.1,
+  play_bytes-append (chat_packet x.text ∷ []) (line_packets (texts_of lines)),
+) refl
+
+-- the piece of all is that of these texts, where they are those of all
+pub piece_is : (piece : Option (List ℕ)) (lines : List EncodedLine) (texts : List (List ℕ)) →
+    IfSome piece (λ bytes. bytes ≡ all_frames lines) → AreLines lines → texts_of lines ≡ texts →
+    IfSome piece (λ bytes. bytes ≡ play_bytes (line_packets texts))
+piece_is None lines texts is are same = tt
+piece_is (Some bytes) lines texts is are same =
+    is ∙ frames_are lines are ∙ ap (λ (t : List (List ℕ)). play_bytes (line_packets t)) same

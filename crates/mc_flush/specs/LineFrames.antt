@@ -1,7 +1,7 @@
 -- What was said, as the frames that tell it to a client.
 use Rattle.std.specs.Prelude.{◌≡◌, ◌++◌, ◌∷◌, [], ℕ, List, map, refl}
 use Rattle.std.specs.Coded.{Coded, code_by, coded×, coded_ℕ, coded_list}
-use Rattle.std.specs.List.{AllByRecursion}
+use Rattle.std.specs.List.{AllByRecursion, flat_map}
 use Rattle.mc_model.specs.Delta.{chat_packet}
 use Rattle.mc_flush.specs.declared.encoded_line.EncodedLine.{EncodedLine}
 use Rattle.mc_sending.specs.Sending.{IsClear, play_bytes}
@@ -30,6 +30,14 @@ IsLineFrame line = line.frame ≡ line_bytes line.text
 
 abbrev pub AreLines : List EncodedLine → Type 0
 AreLines lines = AllByRecursion IsLineFrame lines
+
+-- the texts of lines
+abbrev pub texts_of : List EncodedLine → List (List ℕ)
+texts_of lines = map (λ line. line.text) lines
+
+-- their frames, one behind the other
+abbrev pub all_frames : List EncodedLine → List ℕ
+all_frames lines = flat_map (λ line. line.frame) lines
 
 -- a text with its frame
 abbrev pub framed : List ℕ → EncodedLine

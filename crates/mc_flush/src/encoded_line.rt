@@ -1,7 +1,7 @@
 //! What was said, as all clients are told it.
 
-ghost use Rattle.std.specs.Prelude.{◌≡◌, ◌++◌, IfOk, OnOk};
-ghost use Rattle.mc_flush.specs.LineFrames.{IsLine, framed, line_bytes};
+ghost use Rattle.std.specs.Prelude.{◌≡◌, ◌++◌, IfOk, OnOk, true};
+ghost use Rattle.mc_flush.specs.LineFrames.{IsLine, all_frames, framed, line_bytes, texts_of};
 
 use bytes::Bytes;
 use mc_bytes::{NoMemory, Text};
@@ -31,6 +31,13 @@ impl EncodedLine {
             frame: Bytes::from_vec(bytes)?,
         })
     }
+
+    /// Whether this is its text.
+    pub fn has(&self, text: &Text) -> bool
+        ensures { result ≡ true → self.now.text ≡ text.now }
+    {
+        self.text.as_str() == text.as_str()
+    }
 }
 
 /// Appends the frame that tells a text.
@@ -39,4 +46,30 @@ pub fn put_line(text: &Text, out: &mut Vec<u8>) -> Result<(), NoMemory>
     ensures { OnOk result (out.new.items ≡ out.old.items ++ line_bytes text.now) }
 {
     put_made(Down::Chat(text.copy()?, 0), out)
+}
+
+/// The frames of lines, one behind the other, as one piece.
+pub fn joined_frames(alloc: Global, lines: &[EncodedLine]) -> Result<Bytes, NoMemory>
+    ensures { IfOk result (λ piece. piece ≡ all_frames lines.now) }
+{
+    let mut bytes = Vec::new(alloc);
+    for line in lines {
+        bytes.extend_from_slice(line.frame.as_slice())?;
+    }
+    Ok(Bytes::from_vec(bytes)?)
+}
+
+/// Whether lines have these texts, no other and in this order.
+pub fn have_texts(lines: &[EncodedLine], texts: &[Text]) -> bool
+    ensures { result ≡ true → texts_of lines.now ≡ texts.now }
+{
+    if lines.len() != texts.len() {
+        return false;
+    }
+    for i in 0..lines.len() {
+        if !lines[i].has(&texts[i]) {
+            return false;
+        }
+    }
+    true
 }

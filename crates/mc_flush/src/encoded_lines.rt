@@ -8,7 +8,7 @@ ghost use Rattle.mc_flush.specs.Seeing.{line_packets};
 
 mod fields;
 
-use crate::encoded_line::{EncodedLine, put_line};
+use crate::encoded_line::{EncodedLine, have_texts, joined_frames, put_line};
 use bytes::Bytes;
 use mc_bytes::{NoMemory, Text};
 use mc_loads::push_piece;
@@ -19,19 +19,24 @@ use std::marker::Model;
 /// they were said.
 #[derive(Drop)]
 pub struct EncodedLines {
+    /// Each text with its frame. Contracts see these.
     lines: Vec<EncodedLine>,
+    /// The frames of all of them, once they were joined.
+    piece: Option<Bytes>,
 }
 
 impl Model for EncodedLines {
-    ghost use Rattle.std.specs.Prelude.{List};
+    ghost use Rattle.std.specs.Prelude.{◌≡◌, List, IfSome};
     ghost use Rattle.mc_flush.specs.declared.encoded_line.EncodedLine.{EncodedLine};
-    ghost use Rattle.mc_flush.specs.LineFrames.{coded_lines};
+    ghost use Rattle.mc_flush.specs.LineFrames.{all_frames, coded_lines};
 
     ghost Value = { List EncodedLine };
 
     ghost coded = { coded_lines };
 
     ghost view = { λ all. all.lines.items };
+
+    ghost invariant = { λ all. IfSome all.piece (λ piece. piece ≡ all_frames all.lines.items) };
 }
 
 impl EncodedLines {
@@ -41,6 +46,7 @@ impl EncodedLines {
     {
         EncodedLines {
             lines: Vec::new(alloc),
+            piece: None,
         }
     }
 
@@ -51,7 +57,19 @@ impl EncodedLines {
         ensures err { OnErr result (self.new ≡ self.old) }
     {
         let line = EncodedLine::of(alloc, text)?;
+        self.piece = None;
         self.lines.push(line)?;
+        Ok(())
+    }
+
+    /// Joins the frames of all texts, if there are any.
+    fn join(&mut self, alloc: Global) -> Result<(), NoMemory>
+        ensures { self.new ≡ self.old }
+    {
+        if self.lines.is_empty() {
+            return Ok(());
+        }
+        self.piece = Some(joined_frames(alloc, self.lines.as_slice())?);
         Ok(())
     }
 
@@ -64,7 +82,7 @@ impl EncodedLines {
         for text in texts {
             self.add_line(alloc, text)?;
         }
-        Ok(())
+        self.join(alloc)
     }
 
     /// The frame of the text that stands so many places before the end, None where that is another
@@ -107,8 +125,19 @@ impl EncodedLines {
         Ok(())
     }
 
-    /// Appends the frames of texts, as one piece. Those of them that end what was encoded are not
-    /// encoded again.
+    /// The frames of texts as one piece, where they are all that was encoded.
+    fn whole(&self, texts: &[Text]) -> Option<&Bytes>
+        ensures { AreLines self.now → IfSome (option_copied result)
+            (λ piece. piece ≡ play_bytes (line_packets texts.now)) }
+    {
+        if !have_texts(self.lines.as_slice(), texts) {
+            return None;
+        }
+        self.piece.as_ref()
+    }
+
+    /// Appends the frames of texts, as one piece. It is shared where they are all that was encoded;
+    /// those of them that end what was encoded are not encoded again.
     pub fn push_lines(
         &self,
         alloc: Global,
@@ -120,6 +149,12 @@ impl EncodedLines {
         ensures { OnOk result (joined out.new.items
             ≡ joined out.old.items ++ play_bytes (line_packets texts.now)) }
     {
+        if texts.is_empty() {
+            return Ok(());
+        }
+        if let Some(piece) = self.whole(texts) {
+            return push_piece(piece.clone()?, out);
+        }
         let mut bytes = Vec::new(alloc);
         self.put_lines(texts, &mut bytes)?;
         push_piece(Bytes::from_vec(bytes)?, out)
