@@ -22,8 +22,11 @@ from client import Unexpected
 
 DIG_DROP_ONE = 4
 KIT_PLACES = ((0, 64), (1, 64), (2, 64), (3, 4))
-SPAWN = (8.5, 4.0, 8.5)
+
 TINY = bytes.fromhex("020301")
+
+# The function that shows a tick to all clients: what a tick costs without the text of `replay`.
+SHOWING = "mc_events::server::Server::show::*"
 
 # What the load of 50 clients and 400 ticks hands out, and the piece in which it is copied.
 LOAD_BYTES = 62_197_299
@@ -64,11 +67,13 @@ class Script:
         return ("\n".join(self.lines) + "\n").encode()
 
 
-def instructions(path, words, text):
-    """Count the instructions of a run."""
+def instructions(path, words, text, inside=None):
+    """Count the instructions of a run, or those inside a function alone."""
     with tempfile.NamedTemporaryFile() as out:
+        options = ["--tool=callgrind", f"--callgrind-out-file={out.name}"]
+        options += [f"--toggle-collect={inside}"] if inside else []
         done = subprocess.run(
-            ["valgrind", "--tool=callgrind", f"--callgrind-out-file={out.name}", path, *words],
+            ["valgrind", *options, path, *words],
             input=text, stdout=subprocess.DEVNULL, stderr=subprocess.PIPE, check=False)
     found = re.search(rb"Collected : (\d+)", done.stderr)
     if done.returncode or not found:
@@ -87,9 +92,10 @@ def user_seconds(path, words):
     return least
 
 
-def added(path, words, before, after):
+def added(path, words, before, after, inside=None):
     """Count the instructions of what a script has more than another."""
-    return instructions(path, words, after.text()) - instructions(path, words, before.text())
+    costs = [instructions(path, words, it.text(), inside) for it in (before, after)]
+    return costs[1] - costs[0]
 
 
 def replay(view, land="flat"):
@@ -169,10 +175,13 @@ def items_lost(path):
 
 
 def items_lost_by_all(path):
-    """The tick in which 50 clients lose sight of 4,096 items, to the idle tick before it."""
+    """The tick in which 50 clients lose sight of 4,096 items, to the idle tick before it.
+
+    What shows a tick is counted alone: in the first most of a run is the text of new columns.
+    """
     script = beside(4096, 50)
-    lost = added(path, beside_items(), script, loses_all(script, 50))
-    return lost, added(path, beside_items(), script, ticked(script))
+    lost = added(path, beside_items(), script, loses_all(script, 50), SHOWING)
+    return lost, added(path, beside_items(), script, ticked(script), SHOWING)
 
 
 def idle_with_items(path):
