@@ -104,7 +104,7 @@ def replay(view, land="flat"):
 
 
 def beside_items():
-    """Those where items are the measure: a land of which hardly a byte is sent."""
+    """Those where items are the measure: a land whose columns have hardly a block to be sent."""
     return replay(2, "isle")
 
 
