@@ -1,5 +1,5 @@
 -- What a land keeps for speed alone, by what is done to its columns.
-use Rattle.std.proofs.Common.{◌≡◌, ℕ, zero, suc, ◌<◌, ◌≤◌, ◌&&◌, ◌||◌, not, Bool, true, false, cond}
+use Rattle.std.proofs.Common.{◌≡◌, ℕ, ◌<◌, ◌≤◌, ◌&&◌, ◌||◌, not, Bool, true, false, cond}
 use Rattle.std.proofs.Common.{eqb, nat_eq, Result, Ok, Err, OnOk, OnErr}
 use Rattle.std.proofs.Common.{List, [], ◌∷◌, ◌++◌, length, map, get_or, Option, Some, None, refl, sym}
 use Rattle.std.proofs.Common.{ap, ◌∙◌, arith}
@@ -25,8 +25,8 @@ use Rattle.mc_land.specs.declared.land.upkeep.Upkeep.{Upkeep}
 use Rattle.mc_land.specs.Places.{IsPlace, Place, place_cmp}
 use Rattle.mc_land.specs.KeptLand.{Chests, kept_land, placed, IsFresh, IsIndexed, IsKeptLand, IsPut}
 use Rattle.mc_land.specs.Land.{dirty_in}
-use Rattle.mc_land.specs.Ready.{ReadyValue, settled_ready, touched_cells}
-use Rattle.mc_land.specs.ReadyCode.{changed_at, set_at}
+use Rattle.mc_land.specs.Ready.{ReadyValue, settled_ready}
+use Rattle.mc_land.specs.ReadyCode.{set_at}
 use Rattle.mc_land.specs.Shed.{IsSettled, View}
 use Rattle.mc_land.specs.ShedCode.{AreKept, IsShed, is_kept}
 use Rattle.mc_land.specs.Touched.{AreTouched}
@@ -335,17 +335,17 @@ upkeep_settled columns new was now is empty same seen kept = rw is (record {
 pub upkeep_shed : (terrain : Terrain) (old new : List ReadyValue) (chests : Chests)
     (views : List View) (was now : Upkeep) → IsKeptLand terrain (placed old) chests →
     IsSettled (kept_land terrain (placed old) chests) → IsShed views old new →
-    AreKept views new (length new) → now.touched.keys ≡ was.touched.keys →
-    now.staying ≡ length new → now.seen.items ≡ views → IsUpkeep old was → IsUpkeep new now
-upkeep_shed terrain old new chests views was now kept settled shed stay same all seen upkeep =
+    now.touched.keys ≡ was.touched.keys → now.staying ≤ length new →
+    AreKept now.seen.items new now.staying → IsUpkeep old was → IsUpkeep new now
+upkeep_shed terrain old new chests views was now kept settled shed same within stay upkeep =
     record {
       known = record {
         are = λ q. ap (has q) same ∙ upkeep.known.are q ∙ none_before q ∙ sym (none_after q
             (find place_cmp q (placed new)) refl);
         whole = λ q r e. upkeep.known.whole q r (found_before views old new q r shed e);
       };
-      within = omega (arith, all);
-      stay = λ k d lt. rw seen (stay k d (omega (arith, all)));
+      within = within;
+      stay = stay;
     }
   where
     none_of : (q : Place) (o : Option ReadyValue) → find place_cmp q (placed old) ≡ o →

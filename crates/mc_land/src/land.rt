@@ -188,6 +188,7 @@ impl Land {
         let alloc = *self.columns.allocator();
         let column = grow(alloc, &self.terrain, place)?;
         let ready = Ready::new(alloc, *place, self.terrain, column);
+        self.upkeep.make_room()?;
         push_ready(&mut self.columns, &mut self.index, ready)?;
         Ok(())
     }

@@ -182,9 +182,9 @@ impl Ground {
 
     /// Gives up those ready columns all of whose cells are as the terrain has them and that no view
     /// reaches.
-    pub fn shed(&mut self, views: Vec<(i32, i32, u8)>)
+    pub fn shed(&mut self, views: &[(i32, i32, u8)])
         requires { IsSettled self.old }
-        ensures { self.new ≡ shed_land self.old views.items }
+        ensures { self.new ≡ shed_land self.old views.now }
     {
         self.land.shed(views);
     }

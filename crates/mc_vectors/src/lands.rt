@@ -135,7 +135,7 @@ fn answer_call(call: Call, ground: &mut Ground, words: &mut Words<'_>, answer: &
     match call {
         Call::New => renew(ground, words),
         Call::Settle => ground.land.settle(),
-        Call::Shed => shed(&mut ground.land, words, answer),
+        Call::Shed => shed(&mut ground.land, words),
         Call::Edited => answer.word(ground.land.edited()),
         Call::Stored => answer.word(ground.land.stored()),
         Call::Set => set(&mut ground.land, words, answer),
@@ -168,14 +168,10 @@ fn set(land: &mut Land, words: &mut Words<'_>, answer: &mut Answer) {
 
 /// Settles the land, and makes the columns not ready that are as the terrain has them and that no
 /// view reaches. The view is the next words: its middle column, and how many columns it reaches.
-fn shed(land: &mut Land, words: &mut Words<'_>, answer: &mut Answer) {
+fn shed(land: &mut Land, words: &mut Words<'_>) {
     let view = (words.number(), words.number(), words.number());
-    let mut views = Vec::new(words.alloc);
-    if views.push(view).is_err() {
-        return answer.lose();
-    }
     land.settle();
-    land.shed(views);
+    land.shed(&[view]);
 }
 
 /// Puts the state of a cell.

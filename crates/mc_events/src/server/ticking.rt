@@ -343,7 +343,7 @@ impl Server {
             &mut self.game,
         )?;
         let views = views_of(self.alloc, &self.game)?;
-        self.game.shed(views);
+        self.game.shed(views.as_slice());
         Ok(())
     }
 }

@@ -20,15 +20,14 @@ impl Land {
     /// view reaches. A view is the numbers of its middle column, and how many columns it reaches
     /// on each axis. It looks at no cell and takes no memory, and where the views are those of the
     /// last call and no cell was set since, it looks at no column that stayed then.
-    pub fn shed(&mut self, views: Vec<(i32, i32, u8)>)
+    pub fn shed(&mut self, views: &[(i32, i32, u8)])
         requires { IsSettled self.old }
-        ensures { self.new ≡ shed_land self.old views.items }
+        ensures { self.new ≡ shed_land self.old views.now }
     {
-        let seen = views.as_slice();
-        let from = self.upkeep.known_to_stay(seen);
-        shed_columns(&mut self.columns, &mut self.index, seen, from);
-        self.upkeep.staying = self.columns.as_slice().len();
-        self.upkeep.seen = views;
+        let from = self.upkeep.known_to_stay(views);
+        shed_columns(&mut self.columns, &mut self.index, views, from);
+        self.upkeep
+            .keep_staying(self.columns.as_slice().len(), views);
     }
 }
 

@@ -12,8 +12,12 @@ ghost use Rattle.mc_land.specs.Upkeep.{IsUpkeep, IsWhole, has, is_touched};
 use crate::land::ready_at;
 use crate::places::Place;
 use crate::ready::Ready;
+use mc_bytes::NoMemory;
 use std::alloc::Global;
 use std::collections::{BTreeMap, BTreeSet};
+
+/// For how many views there is room: more than there are players.
+const VIEWS_KEPT: usize = 64;
 
 /// What a land keeps for speed alone: in which columns a cell is dirty, and which of them need not
 /// be looked at where columns are shed.
@@ -49,6 +53,32 @@ impl Upkeep {
             self.staying
         } else {
             0
+        }
+    }
+
+    /// Makes room for the views of a shedding, unless there is some.
+    pub(crate) fn make_room(&mut self) -> Result<(), NoMemory>
+        ensures { (columns : List ReadyValue) → IsUpkeep columns self.old →
+            IsUpkeep columns self.new }
+    {
+        if self.seen.capacity() < VIEWS_KEPT {
+            self.seen.reserve(VIEWS_KEPT)?;
+        }
+        Ok(())
+    }
+
+    /// Keeps that so many columns, from the first on, stay by these views. Where there is no room
+    /// for the views it keeps that none is known to stay. It takes no memory.
+    pub(crate) fn keep_staying(&mut self, staying: usize, views: &[(i32, i32, u8)])
+        ensures touched { self.new.touched.keys ≡ self.old.touched.keys }
+        ensures fewer { self.new.staying ≤ staying }
+        ensures stay { (columns : List ReadyValue) → AreKept views.now columns staying →
+            AreKept self.new.seen.items columns self.new.staying }
+    {
+        self.seen.clear();
+        self.staying = 0;
+        if views.len() <= self.seen.capacity() && self.seen.extend_from_slice(views).is_ok() {
+            self.staying = staying;
         }
     }
 }

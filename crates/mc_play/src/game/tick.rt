@@ -60,9 +60,9 @@ impl Game {
     /// Gives up those ready columns all of whose cells are as the terrain has them and that no view
     /// reaches. A view is the numbers of its middle column, and how many columns it reaches on each
     /// axis.
-    pub fn shed(&mut self, views: Vec<(i32, i32, u8)>)
+    pub fn shed(&mut self, views: &[(i32, i32, u8)])
         requires { IsSettled (land_of self.old) }
-        ensures land { land_of self.new ≡ shed_land (land_of self.old) views.items }
+        ensures land { land_of self.new ≡ shed_land (land_of self.old) views.now }
         ensures game { self.new.game ≡ self.old.game }
         ensures settled { self.new.settled ≡ self.old.settled }
     {

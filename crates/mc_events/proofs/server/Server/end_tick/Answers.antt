@@ -57,5 +57,6 @@ pub returns-clause-sheds : goal.returns-clause-sheds
 returns-clause-sheds c =
     subst (λ (v : ServerValue). Sheds v.game c.shed.new.self) c.self.view_is
     (sheds_given c.self.inside.game c.dismiss.new.game c.shed.new.self
-    c.in_ok-views.views.items (c.in_ok-dismiss.ensures.ready ∙ c.told.ensures.ready)
-    c.shed.ensures.land c.shed.ensures.game c.in_ok-views.ensures)
+    c.as_slice-2.result.now (c.in_ok-dismiss.ensures.ready ∙ c.told.ensures.ready)
+    c.shed.ensures.land c.shed.ensures.game
+    (c.as_slice-2.ensures.value ∙ c.in_ok-views.ensures))

@@ -23,7 +23,7 @@ invariant_of-self-2 c =
       c.push_ready.ensures.indexed,
       upkeep_push _ c.args.place.now c.self.inside.columns.items _ _ _
           c.in_ok-push_ready.ensures.ok (fresh_new _ _ _ _ c.requires c.in_ok-column.ensures
-          c.new-ready.ensures) none c.self.invariant.2,
+          c.new-ready.ensures) none (c.make_room.ensures c.self.inside.columns.items c.self.invariant.2),
     )
 
 pub returns-clause-ok : goal.returns-clause-ok

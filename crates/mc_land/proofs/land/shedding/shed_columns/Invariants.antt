@@ -1,4 +1,3 @@
-use Rattle.std.proofs.Common.{◌≤◌, length}
 use Rattle.mc_land.specs.KeptLand.{IsIndexed}
 use Rattle.mc_land.specs.ShedCode.{AreShed}
 use Rattle.mc_land.proofs.land.shedding.shed_columns.Given as goal
