@@ -25,10 +25,11 @@ enum Call {
     Tell,
     Lose,
     Lost,
+    Past,
 }
 
 /// The calls by their words.
-const CALLS: [(&str, Call); 13] = [
+const CALLS: [(&str, Call); 14] = [
     ("has", Call::Has),
     ("all", Call::All),
     ("entered", Call::Entered),
@@ -42,6 +43,7 @@ const CALLS: [(&str, Call); 13] = [
     ("tell", Call::Tell),
     ("lose", Call::Lose),
     ("lost", Call::Lost),
+    ("past", Call::Past),
 ];
 
 /// The call that a word names.
@@ -171,7 +173,7 @@ fn put_step(name: &str, dx: i8, dy: i8, dz: i8, answer: &mut Answer) {
 }
 
 /// Answers a row of the tracker.
-/// Dear to prove: nine arms over a tracker that is lent.
+/// Dear to prove: ten arms over a tracker that is lent.
 pub fn tracker(tracker: &mut Tracker, words: &mut Words<'_>, answer: &mut Answer) {
     match call_of(words.word()) {
         Some(Call::New) => drop(replace(tracker, Tracker::new(words.alloc))),
@@ -186,6 +188,7 @@ pub fn tracker(tracker: &mut Tracker, words: &mut Words<'_>, answer: &mut Answer
         Some(Call::Tell) => tell(tracker, words, answer),
         Some(Call::Lose) => answer.word(tracker.lose(words.number())),
         Some(Call::Lost) => lost(tracker, words, answer),
+        Some(Call::Past) => past(tracker, words, answer),
         _ => words.fail(),
     }
 }
@@ -224,9 +227,12 @@ fn pile(tracker: &mut Tracker, words: &mut Words<'_>, answer: &mut Answer) {
 /// Tells all of an entity, and puts what was told of it before.
 fn tell(tracker: &mut Tracker, words: &mut Words<'_>, answer: &mut Answer) {
     let eid = words.number();
-    let was = tracker.looks().find(eid);
+    let was = match tracker.looks().find(eid) {
+        Some((spot, pile)) => Some((*spot, *pile)),
+        None => None,
+    };
     let spot = spot_in(words);
-    if tracker.put(eid, spot, pile_in(words)).is_err() {
+    if tracker.put(eid, &spot, &pile_in(words)).is_err() {
         return answer.lose();
     }
     match was {
@@ -250,6 +256,23 @@ fn lost(tracker: &Tracker, words: &mut Words<'_>, answer: &mut Answer) {
     }
 }
 
+/// Goes past what was told, as far as it is just that of so many entities, one after another; puts
+/// how many it went past, and whether none is left.
+fn past(tracker: &Tracker, words: &mut Words<'_>, answer: &mut Answer) {
+    let mut rest = tracker.rest();
+    let mut passed = 0_u8;
+    let count: u8 = words.number();
+    for _ in 0..count {
+        let eid = words.number();
+        let spot = spot_in(words);
+        if rest.pass(eid, &spot, &pile_in(words)) {
+            passed = passed.saturating_add(1);
+        }
+    }
+    answer.word(passed);
+    answer.word(rest.is_empty());
+}
+
 /// A tracker that knows the numbers of so many next words.
 fn knowing(tracker: &Tracker, words: &mut Words<'_>) -> Option<Tracker> {
     let mut now = tracker.anew().ok()?;
@@ -262,7 +285,7 @@ fn knowing(tracker: &Tracker, words: &mut Words<'_>) -> Option<Tracker> {
             yaw: 0,
             pitch: 0,
         };
-        now.put(words.number(), spot, Pile::Empty).ok()?;
+        now.put(words.number(), &spot, &Pile::Empty).ok()?;
     }
     Some(now)
 }

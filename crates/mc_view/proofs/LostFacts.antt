@@ -61,7 +61,7 @@ all_listed all (k ∷ ks) within =
     rw (within k (grind (arith, nat_tests, tied_itself int_cmp_total k)))
     (all_listed all ks (λ q there. within q (grind (arith, nat_tests))))
 
-own_known : (m : Told) → unknown m (map.keys m) ≡ []
+pub own_known : (m : Told) → unknown m (map.keys m) ≡ []
 own_known m =
     (λ i. filter (λ (k : ℤ). not (map.contains_key-keys m k i)) (map.keys m))
     ∙ all_listed (map.keys m) (map.keys m) (λ k there. there)

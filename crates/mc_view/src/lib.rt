@@ -14,6 +14,7 @@ mod forms;
 mod looks;
 mod spots;
 mod square;
+mod told_rest;
 mod tracker;
 mod view_set;
 
@@ -23,5 +24,6 @@ pub use columns::Columns;
 pub use forms::{Form, Moves};
 pub use looks::Looks;
 pub use spots::form;
+pub use told_rest::ToldRest;
 pub use tracker::Tracker;
 pub use view_set::{MIDDLE_BORDER, ViewSet};

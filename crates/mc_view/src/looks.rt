@@ -1,6 +1,7 @@
 //! What was told of entities, looked at one number after another.
 
 ghost use Rattle.std.specs.Prelude.{◌≡◌};
+ghost use Rattle.std.specs.Option.{option_map};
 ghost use Rattle.std.specs.FinMap as map;
 ghost use Rattle.mc_view.specs.KeptTold.{IsRising, told_of};
 
@@ -44,15 +45,15 @@ impl<'a> Looks<'a> {
 
     /// What the client was told of an entity, None where it was not.
     #[inline]
-    pub fn find(&mut self, eid: i32) -> Option<(Spot, Pile)>
+    pub fn find(&mut self, eid: i32) -> Option<(&'a Spot, &'a Pile)>
         ensures same { self.new ≡ self.old }
-        ensures is { result ≡ map.get self.old eid }
+        ensures is { option_map (λ told. (told.0.now, told.1.now)) result ≡ map.get self.old eid }
     {
         match place_near(self.entries, self.near, eid) {
             Ok(at) => {
                 self.near = at + 1;
                 let entry = &self.entries[at];
-                Some((entry.spot, entry.pile))
+                Some((&entry.spot, &entry.pile))
             }
             Err(at) => {
                 self.near = at;

@@ -11,6 +11,7 @@ ghost use Rattle.mc_view.specs.KeptTold.{told_of};
 use crate::forms::Moves;
 use crate::looks::Looks;
 use crate::spots::form;
+use crate::told_rest::ToldRest;
 use mc_bytes::NoMemory;
 use mc_fields::Spot;
 use mc_slots::Pile;
@@ -100,22 +101,39 @@ impl Tracker {
     /// Keeps what the client is told of an entity, in the place of what was kept of it. Where its
     /// number is above all others it is put at the end, with no search. Out of memory, the tracker
     /// is as before.
-    pub fn put(&mut self, eid: i32, spot: Spot, pile: Pile) -> Result<(), NoMemory>
-        ensures ok { OnOk result (self.new ≡ map.insert self.old eid (spot, pile)) }
+    #[inline]
+    pub fn put(&mut self, eid: i32, spot: &Spot, pile: &Pile) -> Result<(), NoMemory>
+        ensures ok { OnOk result (self.new ≡ map.insert self.old eid (spot.now, pile.now)) }
         ensures err { OnErr result (self.new ≡ self.old) }
     {
-        let entry = Entry { eid, spot, pile };
         if is_above(self.entries.as_slice(), self.entries.len(), eid) {
-            self.entries.push(entry)?;
+            self.entries.push(Entry {
+                eid,
+                spot: *spot,
+                pile: *pile,
+            })?;
             return Ok(());
         }
-        self.put_among(entry)
+        self.put_among(eid, spot, pile)
+    }
+
+    /// Keeps what the client is told of an entity in the place of what was kept of it, or else among
+    /// the others. Out of memory, the tracker is as before.
+    #[inline(never)]
+    fn put_among(&mut self, eid: i32, spot: &Spot, pile: &Pile) -> Result<(), NoMemory>
+        ensures ok { OnOk result (self.new ≡ map.insert self.old eid (spot.now, pile.now)) }
+        ensures err { OnErr result (self.new ≡ self.old) }
+    {
+        self.put_entry(Entry {
+            eid,
+            spot: *spot,
+            pile: *pile,
+        })
     }
 
     /// Keeps an entry in the place of that of its number, or else among the others. Out of memory,
     /// the tracker is as before.
-    #[inline(never)]
-    fn put_among(&mut self, entry: Entry) -> Result<(), NoMemory>
+    fn put_entry(&mut self, entry: Entry) -> Result<(), NoMemory>
         ensures ok { OnOk result
             (self.new ≡ map.insert self.old entry.eid (entry.spot, entry.pile)) }
         ensures err { OnErr result (self.new ≡ self.old) }
@@ -137,6 +155,13 @@ impl Tracker {
         ensures { result ≡ self.now }
     {
         Looks::new(self.entries.as_slice())
+    }
+
+    /// What was told, to be gone through by rising number.
+    pub fn rest(&self) -> ToldRest<'_>
+        ensures { result ≡ map.entries self.now }
+    {
+        ToldRest::new(self.entries.as_slice())
     }
 
     /// The numbers of those that this tracker knows and another does not. Each of the two is gone

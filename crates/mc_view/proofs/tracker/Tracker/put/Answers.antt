@@ -12,7 +12,7 @@ pub invariant_of-self-then-is_above : goal.invariant_of-self-then-is_above
 invariant_of-self-then-is_above c =
     let es = c.self.inside.entries.items in
     let new : Entry =
-    record { eid = to_z w32 (of_z w32 c.args.eid); spot = c.args.spot; pile = c.args.pile } in
+    record { eid = to_z w32 (of_z w32 c.args.eid); spot = c.args.spot.now; pile = c.args.pile.now } in
     let count : c.len.result ≡ length es = search rules in
     let high =
     subst (λ (n : ℕ). IsAbove es new.eid n) count
@@ -25,7 +25,7 @@ returns-then-is_above-clause-ok c =
     let fits : FitsSigned w32 c.args.eid = search rules in
     let es = c.self.inside.entries.items in
     let new : Entry =
-    record { eid = to_z w32 (of_z w32 c.args.eid); spot = c.args.spot; pile = c.args.pile } in
+    record { eid = to_z w32 (of_z w32 c.args.eid); spot = c.args.spot.now; pile = c.args.pile.now } in
     let count : c.len.result ≡ length es = search rules in
     let high =
     subst (λ (n : ℕ). IsAbove es new.eid n) count
@@ -33,5 +33,5 @@ returns-then-is_above-clause-ok c =
     (c.is_above.ensures c.if-is_above.true)) in
     rw (← c.self.view_is)
     (ap told_of c.in_ok-push.ensures.items ∙ told_push es new c.self.invariant high
-    ∙ ap (λ (k : ℤ). map.insert (told_of es) k (c.args.spot, c.args.pile))
+    ∙ ap (λ (k : ℤ). map.insert (told_of es) k (c.args.spot.now, c.args.pile.now))
     (to_z-of_z w32 c.args.eid fits))

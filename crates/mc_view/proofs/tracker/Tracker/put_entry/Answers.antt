@@ -4,7 +4,7 @@ use lib.IntN.{ℤ}
 use Rattle.mc_view.specs.declared.tracker.Entry.{Entry}
 use Rattle.mc_view.specs.KeptTold.{IsAt, IsGap, told_of}
 use Rattle.mc_view.proofs.TrackerFacts.{rises_insert, rises_set, told_insert, told_set}
-use Rattle.mc_view.proofs.tracker.Tracker.put_among.Goals as goal
+use Rattle.mc_view.proofs.tracker.Tracker.put_entry.Goals as goal
 
 pub invariant_of-self : goal.invariant_of-self
 invariant_of-self c =
