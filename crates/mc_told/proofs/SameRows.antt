@@ -5,6 +5,7 @@ use Rattle.std.proofs.lemmas.Bool.Decides.{nat_tests}
 use Rattle.std.proofs.lemmas.Int.{ints}
 use lib.IntN.{ℤ}
 use Rattle.mc_view.specs.Forms.{moves_of}
+use Rattle.mc_view.proofs.SpotFacts.{spot_decides}
 use Rattle.mc_model.specs.Delta.{entity_packets, is_same_slot, moves_packets, pile_packets}
 use Rattle.mc_model.specs.Delta.{pile_told}
 use Rattle.mc_packets.specs.declared.down.Down.{Down}
@@ -26,23 +27,7 @@ use Rattle.mc_told.specs.Telling.{told_as}
 
 -- number by number
 pub same_spot : (a b : Spot) → is_same_spot a b ≡ true → a ≡ b
-same_spot a b e =
-    let x = both_true (int_eq a.x b.x) _ e in
-    let y = both_true (int_eq a.y b.y) _ x.1 in
-    let z = both_true (int_eq a.z b.z) _ y.1 in
-    let looks = both_true (nat_eq a.yaw b.yaw) (nat_eq a.pitch b.pitch) z.1 in
-    let same_x : a.x ≡ b.x = (Decides-int_eq a.x b.x).0 x.0 in
-    let same_y : a.y ≡ b.y = (Decides-int_eq a.y b.y).0 y.0 in
-    let same_z : a.z ≡ b.z = (Decides-int_eq a.z b.z).0 z.0 in
-    let same_yaw : a.yaw ≡ b.yaw = (unsigned_Decides a.yaw b.yaw).0 looks.0 in
-    let same_pitch : a.pitch ≡ b.pitch = (unsigned_Decides a.pitch b.pitch).0 looks.1 in
-    λ i. record {
-      x = same_x i;
-      y = same_y i;
-      z = same_z i;
-      yaw = same_yaw i;
-      pitch = same_pitch i;
-    }
+same_spot a b e = (spot_decides a b).0 e
 
 same_kind : (a b : SeenKind) → is_same_kind a b ≡ true → a ≡ b
 same_kind (Player a) (Player b) e = ap Player ((unsigned_Decides a b).0 e)

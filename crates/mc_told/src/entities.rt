@@ -22,6 +22,7 @@ use crate::EncodedEntities;
 use crate::encoded_looks::EncodedLooks;
 use crate::known::put_shown;
 use crate::row::is_in;
+use crate::unchanged::are_as_told;
 use bytes::Bytes;
 use mc_bytes::NoMemory;
 use mc_entities::{Entity, Folk};
@@ -125,6 +126,7 @@ fn put_entity(
 
 /// Appends what a client that was told something of entities is to be told of these, and keeps
 /// that. What it was told is gone through beside them, by rising number.
+#[inline(never)]
 fn put_entities(
     view: &EntityView<'_>,
     entities: &[Entity],
@@ -168,18 +170,44 @@ fn shown_piece(
     Ok(Bytes::from_vec(bytes)?)
 }
 
+/// The numbers of all entities that were told.
+fn all_numbers(alloc: Global, told: &Tracker) -> Result<Vec<i32>, NoMemory>
+    ensures { IfOk result (λ eids. eids.items ≡ map.keys told.now) }
+{
+    let mut eids = Vec::new(alloc);
+    let mut i = 0;
+    while let Some(eid) = told.known(i) {
+        eids.push(eid)?;
+        i += 1;
+    }
+    Ok(eids)
+}
+
+/// The numbers of those entities that were told and are so no more. Where nobody is told now, as of
+/// a client that went far away, none is looked up.
+fn lost_numbers(alloc: Global, told: &Tracker, now: &Tracker) -> Result<Vec<i32>, NoMemory>
+    ensures { IfOk result (λ eids. eids.items
+        ≡ filter (λ (eid : ℤ). not (map.contains_key now.now eid)) (map.keys told.now)) }
+{
+    if now.known(0).is_none() {
+        return all_numbers(alloc, told);
+    }
+    told.lost(alloc, now)
+}
+
 /// The frames that take away the entities that were told and are so no more.
 fn lost_piece(alloc: Global, told: &Tracker, now: &Tracker) -> Result<Bytes, NoMemory>
     ensures { IfOk result (λ piece. piece ≡ play_bytes (destroying
         (filter (λ (eid : ℤ). not (map.contains_key now.now eid)) (map.keys told.now)))) }
 {
-    let lost = told.lost(alloc, now)?;
+    let lost = lost_numbers(alloc, told, now)?;
     destroy_piece(alloc, lost.as_slice())
 }
 
 /// The frames of the entities that a client is to be shown no more, and those of the others, which
-/// are then what it was told of. Entities and what was told of them are gone through once, side by
-/// side. Without memory what it was told of is as before.
+/// are then what it was told of. Where it was told of all just what it is to be shown, it takes no
+/// more than to find that. Else entities and what was told of them are gone through side by side.
+/// Without memory what it was told of is as before.
 pub fn tell(
     alloc: Global,
     view: &EntityView<'_>,
@@ -197,6 +225,9 @@ pub fn tell(
         (pos view.now.folk.now.state.given) }
 {
     let entities = view.folk.all();
+    if are_as_told(view, entities, told) {
+        return Ok((Bytes::new(), Bytes::new()));
+    }
     let mut now = told.anew()?;
     let shown = shown_piece(alloc, view, entities, told, &mut now)?;
     let destroyed = lost_piece(alloc, told, &now)?;

@@ -18,6 +18,7 @@ mod piles;
 mod row;
 mod spawned;
 mod spawns;
+mod unchanged;
 
 pub use clock::Clock;
 pub use encoded_entities::EncodedEntities;

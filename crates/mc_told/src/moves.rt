@@ -15,6 +15,9 @@ use mc_sending::put_made;
 use mc_view::{Form, Moves, form};
 use std::alloc::Global;
 
+/// For how many bytes the frames of a move have room at first: as many as most of them take.
+const MOVE_ROOM: usize = 24;
+
 /// Whether neither place nor look is told.
 pub fn is_still(form: &Form) -> bool
     ensures { result ≡ is_still form.now }
@@ -50,7 +53,8 @@ fn put_head(eid: i32, spot: &Spot, head: bool, out: &mut Vec<u8>) -> Result<(), 
 }
 
 /// Appends the frames of a move to a spot.
-fn put_own(eid: i32, to: &Spot, moves: Moves, out: &mut Vec<u8>) -> Result<(), NoMemory>
+#[inline(never)]
+pub fn put_own(eid: i32, to: &Spot, moves: Moves, out: &mut Vec<u8>) -> Result<(), NoMemory>
     ensures { OnOk result (out.new.items
         ≡ out.old.items ++ play_bytes (moves_packets eid to.now moves)) }
 {
@@ -63,7 +67,7 @@ fn put_own(eid: i32, to: &Spot, moves: Moves, out: &mut Vec<u8>) -> Result<(), N
 pub fn moves_piece(alloc: Global, eid: i32, from: &Spot, to: &Spot) -> Result<Bytes, NoMemory>
     ensures { IfOk result (λ piece. piece ≡ move_bytes eid from.now to.now) }
 {
-    let mut bytes = Vec::new(alloc);
+    let mut bytes = Vec::with_capacity(alloc, MOVE_ROOM)?;
     put_own(eid, to, form(*from, *to), &mut bytes)?;
     Ok(Bytes::from_vec(bytes)?)
 }

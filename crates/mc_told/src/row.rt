@@ -1,6 +1,7 @@
 //! An entity as clients are shown it.
 
-ghost use Rattle.std.specs.Prelude.{◌≡◌};
+ghost use Rattle.std.specs.Prelude.{◌≡◌, ◌↔◌, IsTrue};
+ghost use Rattle.mc_slots.specs.declared.pile.Pile.TheVariants.{Full};
 ghost use Rattle.mc_slots.specs.Pile.{IsPile};
 ghost use Rattle.mc_entities.specs.Kinds.{IsKind};
 ghost use Rattle.mc_told.specs.Telling.{entity_row, is_in, kind_of, pile_of};
@@ -8,7 +9,7 @@ ghost use Rattle.mc_told.specs.Telling.{entity_row, is_in, kind_of, pile_of};
 use mc_entities::{Entity, EntityKind};
 use mc_fields::Spot;
 use mc_model::SeenKind;
-use mc_slots::Pile;
+use mc_slots::{Item, Pile};
 use mc_view::Area;
 
 /// An entity as clients are shown it.
@@ -44,6 +45,27 @@ pub fn pile_of(kind: &EntityKind) -> Pile
         EntityKind::Player { held, .. } => *held,
         EntityKind::Dropped { item, .. } => Pile::Full(*item),
         EntityKind::Mob => Pile::Empty,
+    }
+}
+
+/// Whether a pile is the one that an entity holds or is.
+pub fn holds(kind: &EntityKind, pile: &Pile) -> bool
+    ensures { IsTrue result ↔ (pile.now ≡ pile_of kind.now) }
+{
+    match kind {
+        EntityKind::Player { held, .. } => *pile == *held,
+        EntityKind::Dropped { item, .. } => is_full(pile, item),
+        EntityKind::Mob => matches!(pile, Pile::Empty),
+    }
+}
+
+/// Whether a pile is that of an item.
+fn is_full(pile: &Pile, item: &Item) -> bool
+    ensures { IsTrue result ↔ (pile.now ≡ Full item.now) }
+{
+    match pile {
+        Pile::Full(held) => *held == *item,
+        Pile::Empty => false,
     }
 }
 
