@@ -8,6 +8,7 @@ pub mod NamedPacks
 pub mod Names
 pub mod Near
 pub mod Opening
+mod Picked
 pub mod Reaching
 pub mod States
 pub mod Steps

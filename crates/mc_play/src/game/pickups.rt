@@ -1,7 +1,9 @@
 //! What players pick up.
 
 ghost use Rattle.std.specs.Prelude.{◌≡◌, ◌++◌, ◌≤◌, ◌∷◌, [], IfOk, OnOk};
-ghost use Rattle.std.specs.List.{filter_map};
+ghost use Rattle.std.specs.List.{filter_map, list_any};
+ghost use Rattle.mc_entities.specs.declared.entity.Entity.{Entity};
+ghost use Rattle.mc_entities.specs.Kinds.{is_dropped};
 ghost use Rattle.mc_slots.specs.Pile.{IsItem, IsPile, pile_of};
 ghost use Rattle.mc_model.specs.Deeds.{lessened};
 ghost use Rattle.mc_model.specs.Pickups.{pick_up, pickers, pickups, ripe_for};
@@ -69,6 +71,15 @@ fn pickers_among(
         put_picker(players, entity, &mut connections)?;
     }
     Ok(connections)
+}
+
+/// Whether some of these entities are items.
+fn are_items_among(entities: &[Entity]) -> bool
+    ensures { result ≡ list_any (λ (e : Entity). is_dropped e.kind) entities.now }
+{
+    entities
+        .iter()
+        .any(|entity| matches!(entity.kind, EntityKind::Dropped { .. }))
 }
 
 impl Game {
@@ -195,13 +206,17 @@ impl Game {
     }
 
     /// Lets all players pick up what they can, one after another in rising number of their
-    /// entities: items that lie beside them and have lain there long enough.
+    /// entities: items that lie beside them and have lain there long enough. Where nothing lies
+    /// anywhere, no player is looked at.
     #[tactic(auto, unfolding(mc_model::specs::Pickups::pickups))]
     pub fn pick_up_all(&mut self) -> Result<(), NoMemory>
         ensures is { OnOk result (self.new
             ≡ played self.old (pickups self.old.game) self.new.aside) }
         ensures ready { OnOk result (self.new.aside.ready ≡ self.old.aside.ready) }
     {
+        if !are_items_among(self.entities.folk().all()) {
+            return Ok(());
+        }
         let connections = self.pickers()?;
         self.pick_up_each(connections.as_slice())
     }
