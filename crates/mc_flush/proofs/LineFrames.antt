@@ -1,8 +1,9 @@
 -- What was encoded of lines stays their frames as more are encoded, and so is what is found of it.
 use Rattle.std.proofs.Common.{◌≡◌, ℕ, zero, suc, List, [], ◌∷◌, ◌++◌, ◌<◌, sym, subst, ap, ◌∙◌}
 use Rattle.std.proofs.Common.{Option, None, Some, IfSome, append_assoc, arith, get_or, length, map}
-use Rattle.std.proofs.Common.{◌+◌, drop, refl}
+use Rattle.std.proofs.Common.{◌+◌, ◌≤◌, ◌==◌, true, drop, drop_of_length-le, refl}
 use Rattle.std.proofs.lemmas.List.{drop_more}
+use Rattle.std.proofs.lemmas.Bool.Decides.{nat_tests}
 use Rattle.std.specs.List.{AllByRecursion}
 use Rattle.mc_model.specs.Delta.{chat_packet}
 use Rattle.mc_sending.specs.Sending.{play_bytes}
@@ -37,17 +38,22 @@ line_at (x ∷ lines) (suc i) line all lt is = line_at lines i line all.1 (omega
 -- ---- all of them as one piece
 
 -- lines have the texts that are left where the first has the first, and the others the others
-pub texts_next : (lines : List EncodedLine) (texts : List (List ℕ)) (i : ℕ) (line : EncodedLine)
-    (text : List ℕ) → i < length lines → i < length texts → line ≡ get_or lines i line →
-    text ≡ get_or texts i text → line.text ≡ text →
-    texts_of (drop (i + 1) lines) ≡ drop (i + 1) texts → texts_of (drop i lines) ≡ drop i texts
-texts_next lines texts i line text lt also line_is text_is same rest =
+pub texts_next : (lines : List EncodedLine) (rest later : List (List ℕ)) (i : ℕ)
+    (line : EncodedLine) (text : List ℕ) → i < length lines → line ≡ get_or lines i line →
+    rest ≡ text ∷ later → line.text ≡ text → texts_of (drop (i + 1) lines) ≡ later →
+    texts_of (drop i lines) ≡ rest
+texts_next lines rest later i line text lt line_is rest_is same more =
     ap texts_of (drop_more lines i line lt
     ∙ ap (λ (x : EncodedLine). x ∷ drop (i + 1) lines) (sym line_is))
     ∙ ap (λ (t : List ℕ). t ∷ texts_of (drop (i + 1) lines)) same
-    ∙ ap (λ (ts : List (List ℕ)). text ∷ ts) rest
-    ∙ ap (λ (t : List ℕ). t ∷ drop (i + 1) texts) text_is
-    ∙ sym (drop_more texts i text also)
+    ∙ ap (λ (ts : List (List ℕ)). text ∷ ts) more
+    ∙ sym rest_is
+
+-- where neither is left, the rest have the texts that are left
+pub texts_end : (lines : List EncodedLine) (rest : List (List ℕ)) (i : ℕ) → length lines ≤ i →
+    (length rest == 0) ≡ true → texts_of (drop i lines) ≡ rest
+texts_end lines [] i past empty = ap texts_of (drop_of_length-le lines past)
+texts_end lines (text ∷ rest) i past empty = grind (arith, nat_tests)
 
 -- the frames of all are those of their texts
 pub frames_are : (lines : List EncodedLine) → AreLines lines →

@@ -179,6 +179,20 @@ impl ClientView<'_> {
     }
 }
 
+/// Puts pieces behind others. Where there are no others they are handed on as they are. Without
+/// memory the others are as before.
+fn push_pieces(mut pieces: Vec<Bytes>, out: &mut Vec<Bytes>) -> Result<(), NoMemory>
+    ensures ok { OnOk result (out.new.items ≡ out.old.items ++ pieces.items) }
+    ensures nothing { OnErr result (out.new.items ≡ out.old.items) }
+{
+    if out.is_empty() {
+        *out = pieces;
+        return Ok(());
+    }
+    out.append(&mut pieces)?;
+    Ok(())
+}
+
 /// Appends what a client is sent at a tick: the frames that lead it from what it was shown to what
 /// the parts are now, then those of what was noted. The mark then stands for the parts, once list
 /// and land are settled. A frame that was encoded is shared, and the others are encoded: what is
@@ -240,7 +254,7 @@ pub fn flush_with<L: Ledger>(
         view.chest,
         &mut pieces,
     )?;
-    out.append(&mut pieces)?;
+    push_pieces(pieces, out)?;
     mark.keep(view.age, view.view, view.pack, view.chest);
     Ok(())
 }

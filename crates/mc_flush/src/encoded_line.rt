@@ -63,13 +63,15 @@ pub fn joined_frames(alloc: Global, lines: &[EncodedLine]) -> Result<Bytes, NoMe
 pub fn have_texts(lines: &[EncodedLine], texts: &[Text]) -> bool
     ensures { result ≡ true → texts_of lines.now ≡ texts.now }
 {
-    if lines.len() != texts.len() {
-        return false;
-    }
-    for i in 0..lines.len() {
-        if !lines[i].has(&texts[i]) {
+    let mut rest = texts;
+    for line in lines {
+        let Some((text, later)) = rest.split_first() else {
+            return false;
+        };
+        if !line.has(text) {
             return false;
         }
+        rest = later;
     }
-    true
+    rest.is_empty()
 }

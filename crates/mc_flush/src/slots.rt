@@ -1,6 +1,8 @@
 //! The slots of a window that differ from those that were shown, and the cursor.
 
 ghost use Rattle.std.specs.Prelude.{◌≡◌, ◌<◌, ◌≤◌, ◌+◌, ◌++◌, ◌∷◌, ℕ, [], OnOk, length, map};
+ghost use lib.IntN.{pos};
+ghost use Rattle.mc_packets.specs.declared.down.Down.TheVariants as down;
 ghost use Rattle.mc_slots.specs.Pile.{IsPile, slot_of};
 ghost use Rattle.mc_slots.specs.Chest.{pile_at};
 ghost use Rattle.mc_model.specs.Delta.{cursor_packet, slot_packets};
@@ -28,6 +30,17 @@ fn put_slot(
     if *old == *new {
         return Ok(());
     }
+    put_changed(window, at, new, out)
+}
+
+/// Appends the frame of a slot of a window.
+#[inline(never)]
+fn put_changed(window: i8, at: usize, new: &Pile, out: &mut Vec<u8>) -> Result<(), NoMemory>
+    requires place { at < 100 }
+    requires range { IsPile new.now }
+    ensures { OnOk result (out.new.items ≡ out.old.items ++ play_bytes
+        (down.SetSlot window (pos at) (slot_of new.now) ∷ [])) }
+{
     put_made(Down::SetSlot(window, at as i16, new.slot()), out)
 }
 

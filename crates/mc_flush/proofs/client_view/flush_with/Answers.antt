@@ -23,7 +23,7 @@ returns-clause-sent g c p stands =
     let es = others v.me v.folk.now.state.entities in
     let mark = c.args.mark.now in
     let chest = option_copied v.chest in
-    tick_put c.args.out.now.items c.append.new.self.items c.new-pieces.result.items
+    tick_put c.args.out.now.items c.push_pieces.new.out.items c.new-pieces.result.items
     c.push_changes.new.out.items c.push_piece.new.out.items c.push_notes.new.out.items
     (changes land v.list.now es v.pack.now chest mark v.view v.age v.lines.now)
     (delta p (seen land v.list.now es v.pack.now chest v.view v.age (p.chat ++ v.lines.now)))
@@ -37,7 +37,7 @@ returns-clause-sent g c p stands =
     c.in_ok-noted_piece.ensures.is)
     (c.in_ok-push_notes.ensures ∙ ap (λ (spot : Spot). joined c.push_piece.new.out.items
     ++ play_bytes (notes_of c.args.notes.now spot v.pack.now chest)) c.spot.ensures)
-    c.in_ok-append.ensures.items
+    c.in_ok-push_pieces.ensures.ok
     (delta_is land v.list.now es v.pack.now chest mark v.view v.age v.lines.now p
     (pos v.folk.now.state.given) (others_rise v.me (pos v.folk.now.state.given)
     v.folk.now.state.entities c.in_ok-push_changes.ensures.rise) stands)

@@ -1,16 +1,13 @@
-use Rattle.std.proofs.Common.{◌≡◌, ◌<◌, length, rules}
-use Rattle.mc_flush.proofs.LineFrames.{texts_next}
+use Rattle.std.proofs.Common.{◌∙◌, sym}
+use Rattle.mc_flush.proofs.LineFrames.{texts_end, texts_next}
 use Rattle.mc_flush.proofs.encoded_line.have_texts.Goals as goal
 
-pub loop-i-preserved : goal.loop-i-preserved
-loop-i-preserved c = λ rest.
-    let lines = c.args.lines.now in
-    let texts = c.args.texts.now in
-    let i = c.loop-i.i in
-    let line = c.index-lines-i.result in
-    let text = c.index-texts-i.result in
-    let lt : i < length lines = search rules in
-    let also : i < length texts = search rules in
-    let same : line.text ≡ text = search rules in
-    c.loop-i.invariant (texts_next lines texts i line text lt also c.index-lines-i.is
-    c.index-texts-i.is same rest)
+pub loop-line-preserved : goal.loop-line-preserved
+loop-line-preserved c = λ more. c.loop-line.invariant (texts_next c.args.lines.now
+    c.loop-line.rest.now c.in-Some.later.now c.loop-line.line-index c.line-item.result
+    c.in-Some.text.now c.loop-line-test.true c.line-item.is c.in-Some.ensures.cases.0
+    (c.has.ensures c.if-not-has.false) more)
+
+pub returns : goal.returns
+returns c = λ empty. c.loop-line.invariant (texts_end c.args.lines.now c.loop-line.rest.now
+    c.loop-line.line-index c.loop-line-test.false (sym c.is_empty.ensures ∙ empty))

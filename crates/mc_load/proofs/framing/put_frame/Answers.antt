@@ -8,5 +8,5 @@ write_frame-requires c =
     let packet = c.args.packet in
     let is : c.as_slice.result.now ≡ spelling_of packet =
     c.as_slice.ensures.value ∙ c.in_ok-written.ensures.ok
-    ∙ ap (λ (t : List ℕ). t ++ spelling_of packet) c.new-payload.ensures.items in
+    ∙ ap (λ (t : List ℕ). t ++ spelling_of packet) c.in_ok-payload.ensures.items in
     subst IsPayload (sym is) c.requires.held

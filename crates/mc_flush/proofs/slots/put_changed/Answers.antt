@@ -7,7 +7,7 @@ use Rattle.mc_slots.specs.Pile.{slot_of}
 use Rattle.mc_packets.specs.declared.down.Down.TheVariants.{SetSlot}
 use Rattle.mc_model.proofs.FitsSlots.{set_slot_clear}
 use Rattle.mc_sending.specs.Sending.{IsClear}
-use Rattle.mc_flush.proofs.slots.put_slot.Goals as goal
+use Rattle.mc_flush.proofs.slots.put_changed.Goals as goal
 
 pub put_made-requires : goal.put_made-requires
 put_made-requires c =
