@@ -26,7 +26,10 @@ KIT_PLACES = ((0, 64), (1, 64), (2, 64), (3, 4))
 TINY = bytes.fromhex("020301")
 
 # The function that shows a tick to all clients: what a tick costs without the text of `replay`.
-SHOWING = "mc_events::server::Server::show::*"
+SHOWING = ("mc_events::server::Server::show::*",)
+
+# And that which takes the bytes of a client.
+SERVING = (*SHOWING, "mc_events::server::Server::bytes")
 
 # What the load of 50 clients and 400 ticks hands out, and the piece in which it is copied.
 LOAD_BYTES = 62_197_299
@@ -67,11 +70,11 @@ class Script:
         return ("\n".join(self.lines) + "\n").encode()
 
 
-def instructions(path, words, text, inside=None):
-    """Count the instructions of a run, or those inside a function alone."""
+def instructions(path, words, text, inside=()):
+    """Count the instructions of a run, or those inside some functions alone."""
     with tempfile.NamedTemporaryFile() as out:
         options = ["--tool=callgrind", f"--callgrind-out-file={out.name}"]
-        options += [f"--toggle-collect={inside}"] if inside else []
+        options += [f"--toggle-collect={it}" for it in inside]
         done = subprocess.run(
             ["valgrind", *options, path, *words],
             input=text, stdout=subprocess.DEVNULL, stderr=subprocess.PIPE, check=False)
@@ -92,7 +95,7 @@ def user_seconds(path, words):
     return least
 
 
-def added(path, words, before, after, inside=None):
+def added(path, words, before, after, inside=()):
     """Count the instructions of what a script has more than another."""
     costs = [instructions(path, words, it.text(), inside) for it in (before, after)]
     return costs[1] - costs[0]
@@ -257,6 +260,21 @@ def event_by_connections(path):
     return tuple(costs)
 
 
+def line_by_clients(path):
+    """A line of chat, from its coming to the tick that shows it, with 50 clients to one with 1.
+
+    What takes it and shows it is counted alone: else most is the text of what clients are sent.
+    """
+    costs, many = [], 64
+    for clients in (50, 1):
+        script = apart(clients, 2)
+        later = script.and_then()
+        for number in range(many):
+            later.send(0, protocol.chat(f"the line of number {number}"))
+        costs.append(added(path, replay(2), ticked(script), ticked(later), SERVING) // many)
+    return tuple(costs)
+
+
 # Each row with the most that is asked of it, and whether it counts instructions.
 ROWS = (
     (load_to_copy, 35.0, False),
@@ -268,6 +286,7 @@ ROWS = (
     (status_to_replay, 2.5, True),
     (frame_by_connections, 1.15, True),
     (event_by_connections, 2.0, True),
+    (line_by_clients, 1.3, True),
 )
 
 
