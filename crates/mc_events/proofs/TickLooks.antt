@@ -10,7 +10,8 @@ use Rattle.std.specs.List.{AllByRecursion, sum_by}
 use Rattle.std.specs.Ordering.{nat_cmp}
 use Rattle.std.specs.FinMap.{FinMap, get, insert, keys}
 use Rattle.mc_land.specs.Places.{key_cmp}
-use Rattle.mc_flush.specs.Encoding.{EncodedValue, with_lines}
+use Rattle.mc_entities.specs.Folk.{FolkState}
+use Rattle.mc_flush.specs.Encoding.{EncodedValue, with_entity_frames, with_lines}
 use Rattle.mc_flush.specs.Seeing.{MarkValue}
 use Rattle.mc_model.specs.Sight.{nothing_seen}
 use Rattle.mc_model.specs.declared.player.Player.{Player}
@@ -30,6 +31,10 @@ use Rattle.mc_events.specs.Looks.{AreMarked, AreShownSame, IsMarked, IsShownSame
 use Rattle.mc_events.specs.Looks.{of_client, over_clients, prepared_for, tick_looks}
 use Rattle.mc_events.specs.Served.{Both, Each}
 use Rattle.mc_events.proofs.Preparings.{nothing_left}
+
+-- what was encoded of columns, with what was encoded of entities and what was said behind it
+abbrev said_beside : EncodedValue → FolkState → List (List ℕ) → EncodedValue
+said_beside encoded state texts = with_lines (with_entity_frames encoded state) texts
 
 -- ---- numbers one after another
 
@@ -203,18 +208,18 @@ module _ (settled : FinMap key_cmp ℕ) (g : Game) (m : FinMap nat_cmp Connectio
       )
 
   -- once all were prepared, the flushes look at what was noted alone
-  pub round_within : (ids : List ℕ) (start encoded : EncodedValue) (texts : List (List ℕ))
-      (now mid after : ℕ) → ids ≡ keys m → encoded ≡ all_prepared settled g m ids start →
+  pub round_within : (ids : List ℕ) (start encoded : EncodedValue) (state : FolkState)
+      (texts : List (List ℕ)) (now mid after : ℕ) → ids ≡ keys m → encoded ≡ all_prepared settled g m ids start →
       mid ≤ now + over_clients (view_looks settled g) g m →
-      after ≤ mid + over_clients (rest_looks (with_lines encoded texts) settled g) g m →
+      after ≤ mid + over_clients (rest_looks (said_beside encoded state texts) settled g) g m →
       after ≤ now + tick_looks settled g m
-  round_within ids start encoded texts now mid after are is before behind =
+  round_within ids start encoded state texts now mid after are is before behind =
       let made : encoded ≡ all_prepared settled g m (keys m) start =
       is ∙ ap (λ (ks : List ℕ). all_prepared settled g m ks start) are in
       let all : AllByRecursion (λ (k : ℕ). AheadIn encoded (get m k)) (keys m) =
       subst (λ (e : EncodedValue). AllByRecursion (λ (k : ℕ). AheadIn e (get m k)) (keys m))
       (sym made) (all_ahead (keys m) start) in
-      let few : over_clients (rest_looks (with_lines encoded texts) settled g) g m
+      let few : over_clients (rest_looks (said_beside encoded state texts) settled g) g m
       ≤ sum_by (λ (k : ℕ). notes_in (get m k)) (keys m) = all_within encoded (keys m) all in
       omega (arith, few, both_sums (keys m), before, behind)
 
@@ -225,17 +230,18 @@ module _ (settled : FinMap key_cmp ℕ) (g : Game) (m : FinMap nat_cmp Connectio
 
 -- of a game of which more columns were made ready
 pub round_done : (v u : GameValue) (m : FinMap nat_cmp ConnectionValue) (ids : List ℕ)
-    (start encoded said : EncodedValue) (texts : List (List ℕ)) (now mid after : ℕ) →
+    (start encoded said : EncodedValue) (state : FolkState) (texts : List (List ℕ))
+    (now mid after : ℕ) →
     Prepares v u → ids ≡ keys m →
-    encoded ≡ all_prepared v.settled v.game m ids start → said ≡ with_lines encoded texts →
+    encoded ≡ all_prepared v.settled v.game m ids start → said ≡ said_beside encoded state texts →
     mid ≤ now + over_clients (view_looks v.settled v.game) v.game m →
     after ≤ mid + over_clients (rest_looks said u.settled u.game) u.game m →
     after ≤ now + tick_looks v.settled v.game m
-round_done v u m ids start encoded said texts now mid after same are is says before behind =
+round_done v u m ids start encoded said state texts now mid after same are is says before behind =
     let alike : over_clients (rest_looks said u.settled u.game) u.game m
-    ≡ over_clients (rest_looks (with_lines encoded texts) v.settled v.game) v.game m =
+    ≡ over_clients (rest_looks (said_beside encoded state texts) v.settled v.game) v.game m =
     (λ i. over_clients (rest_looks (says i) (same.settled i) (same.game i)) (same.game i) m) in
-    round_within v.settled v.game m ids start encoded texts now mid after are is before
+    round_within v.settled v.game m ids start encoded state texts now mid after are is before
     (omega (arith, alike, behind))
 
 -- ---- the same marks

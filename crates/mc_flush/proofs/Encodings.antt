@@ -1,8 +1,14 @@
 -- What was encoded stays the frames of the players and of the land as more is encoded.
-use Rattle.std.proofs.Common.{◌≡◌, true, false, cond, ◌||◌, List, ℕ, Some, None, refl, sym, ◌∙◌}
+use Rattle.std.proofs.Common.{◌≡◌, Bool, true, false, cond, ◌||◌, List, ◌∷◌, ℕ, Some, None}
+use Rattle.std.proofs.Common.{refl, sym, ap, ◌∙◌}
+use Rattle.std.specs.List.{fold}
 use Rattle.std.specs.FinMap.{get-empty, insert}
 use Rattle.mc_land.specs.Places.{Place, place_cmp}
 use Rattle.mc_land.specs.Land.{LandValue}
+use Rattle.mc_entities.specs.declared.entity.Entity.{Entity}
+use Rattle.mc_entities.specs.Folk.{FolkState}
+use Rattle.mc_view.specs.Views.{column_of_spot}
+use Rattle.mc_told.specs.EntityFrames.{EntitiesValue, with_frames_of}
 use Rattle.mc_told.proofs.EntityFrames as entities
 use Rattle.mc_loads.specs.ColumnFrames.{AreColumnFrames, ColumnsValue, change_bytes, is_clean}
 use Rattle.mc_loads.specs.ColumnFrames.{load_bytes}
@@ -10,7 +16,7 @@ use Rattle.mc_loads.specs.ColumnFrames as columns
 use Rattle.mc_flush.specs.Lists.{ListValue}
 use Rattle.mc_flush.specs.Encoding.{EncodedValue, AreFrames, columns_in, has_changes, has_load}
 use Rattle.mc_flush.specs.Encoding.{nothing_encoded, player_bytes, with_changes, with_load}
-use Rattle.mc_flush.specs.Encoding.{with_players}
+use Rattle.mc_flush.specs.Encoding.{with_frames_beside, with_players}
 
 same_bytes : (a b : List ℕ) → Some a ≡ Some b → b ≡ a
 same_bytes a b e = sym cc
@@ -80,3 +86,17 @@ changes_is encoded land place = elim (has_changes encoded place || is_clean land
     })) ≡ cond b encoded (record encoded {
       changes = insert encoded.changes place (change_bytes land place);
     })) [ true ↦ refl | false ↦ refl ]
+
+-- ---- entities
+
+-- with the next entity, those of what is left make all
+pub frames_next : (loads : ColumnsValue) (state : FolkState) (now new total : EntitiesValue)
+    (comes : Bool) (e : Entity) (left rest : List Entity) → left ≡ e ∷ rest →
+    comes ≡ columns.has_load loads (column_of_spot e.spot) →
+    new ≡ with_frames_of state comes now e →
+    fold (with_frames_beside loads state) now left ≡ total →
+    fold (with_frames_beside loads state) new rest ≡ total
+frames_next loads state now new total comes e left rest is loaded put all =
+    ap (λ (es : EntitiesValue). fold (with_frames_beside loads state) es rest)
+    (put ∙ ap (λ (b : Bool). with_frames_of state b now e) loaded)
+    ∙ ap (fold (with_frames_beside loads state) now) (sym is) ∙ all

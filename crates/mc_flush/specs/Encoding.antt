@@ -10,9 +10,11 @@ use Rattle.mc_column.specs.Sizes.{cells}
 use Rattle.mc_fields.specs.declared.position.Cell.{Cell}
 use Rattle.mc_land.specs.Places.{Place, is_height, place_cmp}
 use Rattle.mc_land.specs.Land.{LandValue}
+use Rattle.mc_entities.specs.declared.entity.Entity.{Entity}
 use Rattle.mc_entities.specs.Folk.{FolkState}
 use Rattle.mc_view.specs.declared.view_set.ViewSet.{ViewSet}
 use Rattle.mc_view.specs.Sets.{has}
+use Rattle.mc_view.specs.Views.{column_of_spot}
 use Rattle.mc_model.specs.declared.notes.Notes.{Notes}
 use Rattle.mc_model.specs.Notes.{is_sent}
 use Rattle.mc_loads.specs.ColumnFrames.{ColumnsValue, change_bytes, is_clean, load_bytes}
@@ -32,7 +34,7 @@ pub record EncodedValue : Type 0 where
   pub loads : FinMap place_cmp (List ℕ)
   -- by place, the frames of its cells that changed since the last settling
   pub changes : FinMap place_cmp (List ℕ)
-  -- each entity's move since the last settling, and what shows each that came since
+  -- each entity's move since the last settling, and what shows each that some client may not know
   pub entities : EntitiesValue
   -- what was said since the last tick, each text with its frame
   pub lines : List EncodedLine
@@ -109,10 +111,17 @@ abbrev pub with_changes : EncodedValue → LandValue → Place → EncodedValue
 with_changes encoded land place = if has_changes encoded place || is_clean land place then encoded
     else record encoded { changes = insert encoded.changes place (change_bytes land place) }
 
--- the moves of all entities, and what shows those that came
+-- of an entity, which comes into the view of some client if the load of its column was encoded
+abbrev pub with_frames_beside : ColumnsValue → FolkState → EntitiesValue → Entity → EntitiesValue
+with_frames_beside loads state entities e =
+    with_frames_of state (columns.has_load loads (column_of_spot e.spot)) entities e
+
+-- the moves of all entities, and what shows those that some client may not know
 abbrev pub with_entity_frames : EncodedValue → FolkState → EncodedValue
-with_entity_frames encoded state =
-    record encoded { entities = fold (with_frames_of state) encoded.entities state.entities }
+with_entity_frames encoded state = record encoded {
+  entities = fold
+      (with_frames_beside (columns_in encoded) state) encoded.entities state.entities;
+}
 
 -- what was said, behind what is there
 abbrev pub with_lines : EncodedValue → List (List ℕ) → EncodedValue

@@ -1,15 +1,16 @@
 ghost use Rattle.std.specs.Prelude.{◌≡◌, ◌+◌, ◌≤◌, OnOk, OnErr};
 ghost use Rattle.std.specs.Option.{option_copied};
-ghost use Rattle.std.specs.List.{AllByRecursion};
+ghost use Rattle.std.specs.List.{AllByRecursion, fold};
 ghost use Rattle.std.specs.FinMap as map;
 ghost use Rattle.mc_land.specs.Places.{IsPlace};
 ghost use Rattle.mc_land.specs.Land.{LandValue};
 ghost use Rattle.mc_flush.specs.Lists.{ListValue};
 ghost use Rattle.mc_flush.specs.Seeing.{IsNamed};
 ghost use Rattle.mc_loads.specs.Columns.{IsReady};
+ghost use Rattle.mc_told.specs.EntityFrames.{AreEncoded};
 ghost use Rattle.mc_flush.specs.Encoding.{AreFrames, change_cost, columns_in, load_cost};
 ghost use Rattle.mc_flush.specs.Encoding.{nothing_encoded, with_changes, with_entity_frames};
-ghost use Rattle.mc_flush.specs.Encoding.{with_lines, with_load, with_players};
+ghost use Rattle.mc_flush.specs.Encoding.{with_frames_beside, with_lines, with_load, with_players};
 ghost use Rattle.mc_flush.specs.LineFrames.{IsLine};
 
 mod fields;
@@ -22,6 +23,7 @@ use mc_entities::Folk;
 use mc_land::{Land, Steps};
 use mc_loads::EncodedColumns;
 use mc_told::EncodedEntities;
+use mc_view::column_of_spot;
 use std::alloc::Global;
 use std::marker::Model;
 use std::sync::ledger::Ledger;
@@ -29,8 +31,8 @@ use std::sync::ledger::Ledger;
 /// What is the same for all clients of a tick, encoded once, in pieces that each of them shares:
 /// the frames of who left and of who came since the last settling, by place that of a column's
 /// load, by place those of its cells that changed since the last settling, by number those of an
-/// entity's move since then or those that show one that came since, and in their order those of
-/// what was said.
+/// entity's move since then and those that show one that some client may not know, and in their
+/// order those of what was said.
 #[derive(Drop)]
 pub struct Encoded {
     /// The frames about players, where they were encoded.
@@ -57,6 +59,26 @@ impl Model for Encoded {
       entities = e.entities;
       lines = e.lines;
     } };
+}
+
+/// Adds the frames of each entity's move since the last settling, and those that show each that
+/// some client may not know: one that came since, one that stands in another column than then, and
+/// one whose column's load was encoded. Without memory they are those of some.
+fn add_all(
+    alloc: Global,
+    folk: &Folk,
+    columns: &EncodedColumns,
+    entities: &mut EncodedEntities,
+) -> Result<(), NoMemory>
+    ensures ok { OnOk result (entities.new ≡ fold
+        (with_frames_beside columns.now folk.now.state) entities.old folk.now.state.entities) }
+    ensures frames { AreEncoded entities.old → AreEncoded entities.new }
+{
+    for entity in folk.all() {
+        let comes = columns.load(&column_of_spot(&entity.spot)).is_some();
+        entities.add_entity(alloc, folk, entity, comes)?;
+    }
+    entities.join(alloc)
 }
 
 impl Encoded {
@@ -133,13 +155,14 @@ impl Encoded {
     }
 
     /// Adds the frames of each entity's move since the last settling, and those that show each that
-    /// came since. Without memory they are those of some.
+    /// some client may not know: one that came since, one that stands in another column than then,
+    /// and one whose column's load was encoded. Without memory they are those of some.
     pub fn add_entities(&mut self, alloc: Global, folk: &Folk) -> Result<(), NoMemory>
         ensures ok { OnOk result (self.new ≡ with_entity_frames self.old folk.now.state) }
         ensures frames { (land : LandValue) (list : ListValue) → AreFrames land list self.old
             → AreFrames land list self.new }
     {
-        self.entities.add_entities(alloc, folk)
+        add_all(alloc, folk, &self.columns, &mut self.entities)
     }
 
     /// Adds the frames of what was said since the last tick, in the order in which it was said.

@@ -4,11 +4,10 @@ use Rattle.std.specs.FinMap.{FinMap}
 use Rattle.std.specs.List.{fold}
 use Rattle.mc_land.specs.Places.{Place, key_cmp}
 use Rattle.mc_land.specs.Land.{LandValue}
-use Rattle.mc_entities.specs.Folk.{FolkState}
 use Rattle.mc_view.specs.declared.view_set.ViewSet.{ViewSet}
 use Rattle.mc_loads.specs.Columns.{staying}
 use Rattle.mc_flush.specs.Encoding.{EncodedValue, nothing_encoded, with_changes}
-use Rattle.mc_flush.specs.Encoding.{with_entity_frames, with_load, with_players}
+use Rattle.mc_flush.specs.Encoding.{with_load, with_players}
 use Rattle.mc_flush.specs.Lists.{ListValue}
 use Rattle.mc_flush.specs.Seeing.{MarkValue}
 use Rattle.mc_model.specs.declared.player.Player.{Player}
@@ -16,9 +15,9 @@ use Rattle.mc_model.specs.Game.{Game}
 use Rattle.mc_showing.specs.Around.{kept_columns, new_columns}
 use Rattle.mc_showing.specs.Looking.{cells_of}
 
--- who left and who came, and how each entity moved, or what shows it
-abbrev pub begun : ListValue → FolkState → EncodedValue
-begun list state = with_entity_frames (with_players nothing_encoded list) state
+-- who left and who came
+abbrev pub begun : ListValue → EncodedValue
+begun list = with_players nothing_encoded list
 
 -- the loads of columns, one after another
 abbrev pub with_loads : LandValue → EncodedValue → List Place → EncodedValue

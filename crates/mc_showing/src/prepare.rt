@@ -9,7 +9,7 @@ ghost use Rattle.mc_land.specs.Land.{LandValue};
 ghost use Rattle.mc_land.specs.Places.{IsPlace};
 ghost use Rattle.mc_view.specs.Sets.{all_of, is_within};
 ghost use Rattle.mc_loads.specs.Columns.{IsReady, staying, stays};
-ghost use Rattle.mc_flush.specs.Encoding.{AreFrames, with_entity_frames, with_load, with_players};
+ghost use Rattle.mc_flush.specs.Encoding.{AreFrames, with_load};
 ghost use Rattle.mc_flush.specs.Lists.{ListValue};
 ghost use Rattle.mc_flush.specs.Seeing.{loaded};
 ghost use Rattle.mc_play.specs.Kept.{land_of};
@@ -21,7 +21,6 @@ ghost use Rattle.mc_showing.specs.Preparing.{IsReadyFor, Prepares};
 use crate::roster::Roster;
 use crate::views::view_of;
 use mc_bytes::NoMemory;
-use mc_entities::Folk;
 use mc_flush::{Encoded, Mark};
 use mc_land::{Land, Steps};
 use mc_play::Game;
@@ -29,31 +28,13 @@ use mc_view::{Columns, ViewSet};
 use std::alloc::Global;
 use std::sync::ledger::Ledger;
 
-/// Encodes who left and who came since the last settling, and of each entity how it moved since, or
-/// what shows it, if it came since.
-fn add_all(
-    alloc: Global,
-    roster: &Roster,
-    folk: &Folk,
-    encoded: &mut Encoded,
-) -> Result<(), NoMemory>
-    ensures added { OnOk result (encoded.new
-        ≡ with_entity_frames (with_players encoded.old roster.now) folk.now.state) }
-    ensures frames { (land : LandValue) → AreFrames land roster.now encoded.old
-        → AreFrames land roster.now encoded.new }
-{
-    encoded.add_players(alloc, roster.list())?;
-    encoded.add_entities(alloc, folk)
-}
-
-/// Encodes who left and who came since the last settling, and of each entity how it moved since, or
-/// what shows it, if it came since.
-pub fn start(alloc: Global, roster: &Roster, folk: &Folk) -> Result<Encoded, NoMemory>
-    ensures is { IfOk result (λ encoded. encoded ≡ begun roster.now folk.now.state) }
+/// Encodes who left and who came since the last settling.
+pub fn start(alloc: Global, roster: &Roster) -> Result<Encoded, NoMemory>
+    ensures is { IfOk result (λ encoded. encoded ≡ begun roster.now) }
     ensures frames { (land : LandValue) → IfOk result (AreFrames land roster.now) }
 {
     let mut encoded = Encoded::new(alloc);
-    if let Err(fault) = add_all(alloc, roster, folk, &mut encoded) {
+    if let Err(fault) = encoded.add_players(alloc, roster.list()) {
         drop(encoded);
         return Err(fault);
     }

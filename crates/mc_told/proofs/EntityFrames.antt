@@ -1,7 +1,6 @@
 -- What was encoded of entities stays their frames as more is encoded, and is found.
-use Rattle.std.proofs.Common.{◌≡◌, ℕ, Bool, true, false, cond, List, ◌∷◌, Option, Some, None}
+use Rattle.std.proofs.Common.{◌≡◌, ℕ, Bool, true, false, cond, List, Option, Some, None}
 use Rattle.std.proofs.Common.{refl, sym, subst, ap, ◌∙◌, arith}
-use Rattle.std.specs.List.{fold}
 use Rattle.std.specs.Ordering.{int_cmp, eq_by_cmp}
 use Rattle.std.proofs.lemmas.Cmp.{int_cmp_total}
 use Rattle.std.specs.FinMap.{FinMap, empty, get, get-empty, get-insert, insert}
@@ -10,7 +9,6 @@ use Rattle.std.proofs.lemmas.Bool.Decides.{nat_tests}
 use lib.IntN.{ℤ}
 use Rattle.mc_fields.specs.declared.position.Spot.{Spot}
 use Rattle.mc_entities.specs.declared.entity.Entity.{Entity}
-use Rattle.mc_entities.specs.Folk.{FolkState}
 use Rattle.mc_view.specs.Forms.{form_of}
 use Rattle.mc_model.proofs.FitsText.{both_true}
 use Rattle.mc_told.specs.declared.moved.Moved.{Moved}
@@ -19,7 +17,7 @@ use Rattle.mc_told.specs.declared.spawned.Spawned.{Spawned}
 use Rattle.mc_told.specs.EntityFrames.{AreEncoded, EntitiesValue, found_move, found_spawn}
 use Rattle.mc_told.specs.EntityFrames.{frames_of_move, frames_of_row, is_move, is_same_row}
 use Rattle.mc_told.specs.EntityFrames.{is_same_spot, is_still, move_bytes, move_of, no_entities}
-use Rattle.mc_told.specs.EntityFrames.{spawn_bytes, spawn_of, with_frames_of, with_move}
+use Rattle.mc_told.specs.EntityFrames.{spawn_bytes, spawn_of, with_move}
 use Rattle.mc_told.specs.EntityFrames.{with_spawn}
 use Rattle.mc_bytes.proofs.Trees.{equal}
 use Rattle.mc_told.proofs.SameRows.{same_row, same_spot}
@@ -84,12 +82,6 @@ spawn_added old e frames = record {
   spawns = put_holds (λ eid (spawned : Spawned). spawned.frames ≡ spawn_bytes spawned.row)
       old.spawns e.eid (spawn_of e) frames.spawns refl;
 }
-
--- with the next entity, those of what is left make all
-pub frames_next : (state : FolkState) (now new total : EntitiesValue) (e : Entity)
-    (left rest : List Entity) → left ≡ e ∷ rest → new ≡ with_frames_of state now e →
-    fold (with_frames_of state) now left ≡ total → fold (with_frames_of state) new rest ≡ total
-frames_next state now new total e left rest is put all = grind (arith, nat_tests)
 
 -- ---- what is found
 

@@ -6,3 +6,4 @@ pub mod Rising
 pub mod Rows
 pub mod SameRows
 pub mod Told
+pub mod Runs

@@ -1,6 +1,6 @@
 -- What is encoded of entities once for all clients of a tick: the frames that tell the move of each
--- that was told at the last settling, and those that show each that came since.
-use Rattle.std.specs.Prelude.{◌≡◌, ◌&&◌, ℕ, Bool, true, false, List, Option, Some, None, nat_eq}
+-- that was told at the last settling, and those that show each that some client may not know.
+use Rattle.std.specs.Prelude.{◌≡◌, ◌&&◌, ◌||◌, not, ℕ, Bool, true, false, List, Option, Some, None, nat_eq}
 use Rattle.std.specs.Prelude.{if◌then◌else◌, refl}
 use Rattle.std.specs.Coded.{Coded, code_by, coded×, coded_ℕ, coded_ℤ, coded_list}
 use Rattle.std.specs.Ordering.{int_cmp, int_eq}
@@ -16,6 +16,7 @@ use Rattle.mc_view.specs.declared.forms.Form.{Form}
 use Rattle.mc_view.specs.declared.forms.Form.TheVariants.{Still}
 use Rattle.mc_view.specs.Forms.{form_of, moves_of}
 use Rattle.mc_view.specs.ToldCode.{coded_spot}
+use Rattle.mc_view.specs.Views.{column_of_spot}
 use Rattle.mc_model.specs.declared.seen.SeenKind.{SeenKind}
 use Rattle.mc_model.specs.declared.seen.SeenKind.TheVariants.{Player, Dropped, Mob}
 use Rattle.mc_model.specs.Delta.{moves_packets, spawn_as}
@@ -29,7 +30,7 @@ use Rattle.mc_told.specs.Telling.{entity_row}
 pub record EntitiesValue : Type 0 where
   -- by number, each entity's move since the last settling
   pub moves : FinMap int_cmp Moved
-  -- by number, what shows each entity that came since
+  -- by number, what shows each entity that some client may not know
   pub spawns : FinMap int_cmp Spawned
 
 abbrev pub coded_moved : Coded Moved
@@ -96,13 +97,25 @@ spawn_of e = record { row = entity_row e; frames = spawn_bytes (entity_row e) }
 abbrev pub with_spawn : EntitiesValue → Entity → EntitiesValue
 with_spawn encoded e = record encoded { spawns = insert encoded.spawns e.eid (spawn_of e) }
 
--- an entity that was at a spot at the last settling, or came since
-abbrev pub with_told : Option Spot → EntitiesValue → Entity → EntitiesValue
-with_told (Some from) encoded e = with_move encoded from e
-with_told None encoded e = with_spawn encoded e
+-- what stands at one spot is in another column than what stands at the other
+abbrev pub has_crossed : Spot → Spot → Bool
+has_crossed from to = not (int_eq (column_of_spot from).0 (column_of_spot to).0)
+    || not (int_eq (column_of_spot from).1 (column_of_spot to).1)
 
-abbrev pub with_frames_of : FolkState → EntitiesValue → Entity → EntitiesValue
-with_frames_of state encoded e = with_told (told_of e.eid state) encoded e
+-- an entity that was at a spot at the last settling: its move, and, where it or its column is new to
+-- some client, what shows it
+abbrev pub with_known : Spot → Bool → EntitiesValue → Entity → EntitiesValue
+with_known from comes encoded e = if comes || has_crossed from e.spot then
+    with_spawn (with_move encoded from e) e else with_move encoded from e
+
+-- or that came since
+abbrev pub with_told : Option Spot → Bool → EntitiesValue → Entity → EntitiesValue
+with_told (Some from) comes encoded e = with_known from comes encoded e
+with_told None comes encoded e = with_spawn encoded e
+
+-- an entity of which is said whether its column comes into the view of some client
+abbrev pub with_frames_of : FolkState → Bool → EntitiesValue → Entity → EntitiesValue
+with_frames_of state comes encoded e = with_told (told_of e.eid state) comes encoded e
 
 -- ---- what is found
 

@@ -2,3 +2,4 @@ pub mod KeptRows
 pub mod Telling
 pub mod RowCode
 pub mod EntityFrames
+pub mod Runs

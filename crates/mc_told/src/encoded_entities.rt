@@ -1,16 +1,17 @@
 ghost use Rattle.std.specs.Prelude.{◌≡◌, OnOk};
 ghost use Rattle.std.specs.Option.{option_copied};
-ghost use Rattle.std.specs.List.{fold};
 ghost use Rattle.std.specs.FinMap as map;
 ghost use Rattle.mc_entities.specs.Kinds.{IsKind};
 ghost use Rattle.mc_told.specs.EntityFrames.{AreEncoded, found_spawn, no_entities};
-ghost use Rattle.mc_told.specs.EntityFrames.{with_frames_of, with_move, with_spawn};
+ghost use Rattle.mc_told.specs.EntityFrames.{has_crossed, with_frames_of, with_known, with_move};
+ghost use Rattle.mc_told.specs.EntityFrames.{with_spawn};
 
 mod fields;
 
+use crate::encoded_moves::EncodedMoves;
 use crate::moved::Moved;
 use crate::moves::{is_still, moves_piece};
-use crate::numbered::{place_near, put_row};
+use crate::numbered::{place_of, put_row};
 use crate::row::{Row, entity_row};
 use crate::spawned::Spawned;
 use crate::spawns::spawn_piece;
@@ -18,25 +19,32 @@ use bytes::Bytes;
 use mc_bytes::NoMemory;
 use mc_entities::{Entity, Folk};
 use mc_fields::Spot;
-use mc_view::form;
+use mc_view::{column_of_spot, form};
 use std::alloc::Global;
-use std::collections::BTreeMap;
 use std::marker::Model;
 
 /// What differs of entities since the last settling, each encoded once for all clients of a tick:
-/// by number the move of one that was told then, and by number what shows one that came since.
+/// by number the move of one that was told then, and by number what shows one that some client may
+/// not know.
 #[derive(Drop)]
 pub struct EncodedEntities {
-    /// By rising number, the move of an entity.
-    moves: Vec<(i32, Moved)>,
-    /// By number, what shows an entity that is new.
-    spawns: BTreeMap<i32, Spawned>,
-    /// How many bytes the frames of moves are, for who makes room for some of them.
-    size: usize,
+    /// By number, the move of an entity.
+    moves: EncodedMoves,
+    /// By rising number, what shows an entity that is new, or new to some.
+    spawns: Vec<(i32, Spawned)>,
+}
+
+/// Whether an entity that was at one spot and is at another stands in another column.
+fn has_crossed(from: &Spot, to: &Spot) -> bool
+    ensures { result ≡ has_crossed from.now to.now }
+{
+    let (old_x, old_z) = column_of_spot(from);
+    let (x, z) = column_of_spot(to);
+    old_x != x || old_z != z
 }
 
 impl Model for EncodedEntities {
-    ghost use Rattle.std.specs.FinMap.{from_entries, from_sorted};
+    ghost use Rattle.std.specs.FinMap.{from_sorted};
     ghost use Rattle.mc_told.specs.EntityFrames.{EntitiesValue, coded_entities};
     ghost use Rattle.mc_told.specs.KeptRows.{IsRising};
 
@@ -45,11 +53,11 @@ impl Model for EncodedEntities {
     ghost coded = { coded_entities };
 
     ghost view = { λ e. record {
-      moves = from_sorted e.moves.items;
-      spawns = from_entries e.spawns.entries;
+      moves = e.moves;
+      spawns = from_sorted e.spawns.items;
     } };
 
-    ghost invariant = { λ e. IsRising e.moves.items };
+    ghost invariant = { λ e. IsRising e.spawns.items };
 }
 
 impl EncodedEntities {
@@ -59,36 +67,51 @@ impl EncodedEntities {
         ensures frames { AreEncoded result }
     {
         EncodedEntities {
-            moves: Vec::new(alloc),
-            spawns: BTreeMap::new(alloc),
-            size: 0,
+            moves: EncodedMoves::new(alloc),
+            spawns: Vec::new(alloc),
         }
     }
 
-    /// Adds the frames of each entity's move since the last settling, and those that show each that
-    /// came since. Without memory they are those of some.
-    pub fn add_entities(&mut self, alloc: Global, folk: &Folk) -> Result<(), NoMemory>
-        ensures ok { OnOk result (self.new
-            ≡ fold (with_frames_of folk.now.state) self.old folk.now.state.entities) }
-        ensures frames { AreEncoded self.old → AreEncoded self.new }
-    {
-        for entity in folk.all() {
-            self.add_entity(alloc, folk, entity)?;
-        }
-        Ok(())
-    }
-
-    /// Adds the frames of an entity's move since the last settling, if it moved, or those that show
-    /// it, if it came since. Without memory all is as before.
-    fn add_entity(&mut self, alloc: Global, folk: &Folk, entity: &Entity) -> Result<(), NoMemory>
+    /// Adds the frames of an entity's move since the last settling, if it moved, and those that show
+    /// it, if some client may not know it: it came since, or stands in another column than then, or
+    /// its column comes into the view of a client. Without memory they are those of some.
+    pub fn add_entity(
+        &mut self,
+        alloc: Global,
+        folk: &Folk,
+        entity: &Entity,
+        comes: bool,
+    ) -> Result<(), NoMemory>
         requires { IsKind entity.now.kind }
-        ensures ok { OnOk result (self.new ≡ with_frames_of folk.now.state self.old entity.now) }
+        ensures ok { OnOk result (self.new
+            ≡ with_frames_of folk.now.state comes self.old entity.now) }
         ensures frames { AreEncoded self.old → AreEncoded self.new }
     {
         match folk.told(entity.eid) {
-            Some(from) => self.add_move(alloc, from, entity),
+            Some(from) => self.add_known(alloc, from, entity, comes),
             None => self.add_spawn(alloc, entity),
         }
+    }
+
+    /// Adds the frames of the move from a spot of an entity that was there at the last settling, if
+    /// it moved, and those that show it, if its column or that of the spot is new to some client.
+    /// Without memory they are those of some.
+    fn add_known(
+        &mut self,
+        alloc: Global,
+        from: &Spot,
+        entity: &Entity,
+        comes: bool,
+    ) -> Result<(), NoMemory>
+        requires { IsKind entity.now.kind }
+        ensures ok { OnOk result (self.new ≡ with_known from.now comes self.old entity.now) }
+        ensures frames { AreEncoded self.old → AreEncoded self.new }
+    {
+        self.add_move(alloc, from, entity)?;
+        if comes || has_crossed(from, &entity.spot) {
+            self.add_spawn(alloc, entity)?;
+        }
+        Ok(())
     }
 
     /// Adds the frames of an entity's move from a spot, unless it is there still. Without memory
@@ -105,9 +128,7 @@ impl EncodedEntities {
             to: entity.spot,
             frames: moves_piece(alloc, entity.eid, from, &entity.spot)?,
         };
-        let size = moved.frames.len();
-        put_row(&mut self.moves, entity.eid, moved)?;
-        self.size = self.size.saturating_add(size);
+        self.moves.put(entity.eid, moved)?;
         Ok(())
     }
 
@@ -122,32 +143,34 @@ impl EncodedEntities {
             row,
             frames: spawn_piece(alloc, &row)?,
         };
-        self.spawns.insert(entity.eid, spawned)?;
+        put_row(&mut self.spawns, entity.eid, spawned)?;
         Ok(())
     }
 
-    /// How many bytes the frames of moves are, or fewer.
-    pub(crate) fn size(&self) -> usize {
-        self.size
+    /// Joins the frames of all moves, so that those of moves that stand side by side are appended
+    /// by one copy.
+    pub fn join(&mut self, alloc: Global) -> Result<(), NoMemory>
+        ensures { self.new ≡ self.old }
+    {
+        self.moves.join(alloc)?;
+        Ok(())
     }
 
-    /// What was encoded of the move of the entity of a number, which is looked for at one place
-    /// first, and where that of the next number is best looked for.
-    #[inline]
-    pub(crate) fn move_near(&self, near: usize, eid: i32) -> (Option<&Moved>, usize)
-        ensures { option_copied result.0 ≡ map.get self.now.moves eid }
+    /// The moves.
+    pub(crate) fn moves(&self) -> &EncodedMoves
+        ensures { result.now ≡ self.now.moves }
     {
-        match place_near(self.moves.as_slice(), near, eid) {
-            Ok(at) => (Some(&self.moves[at].1), at + 1),
-            Err(at) => (None, at),
-        }
+        &self.moves
     }
 
     /// What was encoded to show the entity of a number.
     fn spawn_of(&self, eid: i32) -> Option<&Spawned>
         ensures { option_copied result ≡ map.get self.now.spawns eid }
     {
-        self.spawns.get(&eid)
+        match place_of(self.spawns.as_slice(), eid) {
+            Ok(at) => Some(&self.spawns[at].1),
+            Err(_) => None,
+        }
     }
 
     /// The frames that show an entity as it is to be shown, None exactly where those of it were not

@@ -93,8 +93,9 @@ fn destroy_piece(alloc: Global, gone: &[i32]) -> Result<Bytes, NoMemory>
     Ok(Bytes::from_vec(bytes)?)
 }
 
-/// Appends what a client that was told something of entities is to be told of one, and keeps that:
-/// nothing of its own, and of one that is not in its view.
+/// Tells a client that was told something of entities what it is to be told of one, and keeps that:
+/// nothing of its own, and of one that is not in its view. What is sent are the frames that are
+/// appended, and those that are due then behind them.
 fn put_entity(
     view: &EntityView<'_>,
     area: &Area,
@@ -106,10 +107,11 @@ fn put_entity(
 ) -> Result<(), NoMemory>
     requires area { area.now ≡ view.now.view }
     requires kind { IsKind entity.now.kind }
-    requires frames { AreEncoded encoded.old }
-    ensures encoded { OnOk result (encoded.new ≡ encoded.old) }
+    requires frames { AreEncoded encoded.old.encoded }
+    ensures encoded { encoded.new.encoded ≡ encoded.old.encoded }
     ensures same { OnOk result (told.new ≡ told.old) }
-    ensures sent { OnOk result (out.new.items ≡ out.old.items ++ play_bytes (rows_packets told.old
+    ensures sent { OnOk result (out.new.items ++ encoded.new.due
+        ≡ (out.old.items ++ encoded.old.due) ++ play_bytes (rows_packets told.old
         (rows_in view.now.view (others view.now.me (entity.now ∷ []))))) }
     ensures now { OnOk result (now.new ≡ with_rows now.old
         (rows_in view.now.view (others view.now.me (entity.now ∷ [])))) }
@@ -147,7 +149,7 @@ fn put_entities(
     for entity in entities {
         put_entity(view, &area, entity, &mut encoded, &mut looks, now, out)?;
     }
-    Ok(())
+    encoded.put_due(out)
 }
 
 /// The frames of the entities that a client is to be shown, which are kept.
@@ -165,7 +167,7 @@ fn shown_piece(
     ensures now { OnOk result (now.new ≡ with_rows now.old
         (rows_in view.now.view (others view.now.me entities.now))) }
 {
-    let mut bytes = Vec::with_capacity(alloc, view.encoded.size().min(FIRST_SIZE))?;
+    let mut bytes = Vec::with_capacity(alloc, view.encoded.moves().size().min(FIRST_SIZE))?;
     put_entities(view, entities, told, now, &mut bytes)?;
     Ok(Bytes::from_vec(bytes)?)
 }

@@ -66,7 +66,7 @@ fn put_exchanged(
     put_changed(&row, spot, pile, out)
 }
 
-/// Appends what differs of an entity of which a client was told where it was and which pile it held
+/// Tells what differs of an entity of which a client was told where it was and which pile it held
 /// or was, and keeps what it is told now. Most hold what they held.
 fn put_known(
     encoded: &mut EncodedLooks<'_>,
@@ -77,15 +77,16 @@ fn put_known(
     out: &mut Vec<u8>,
 ) -> Result<(), NoMemory>
     requires kind { IsKind entity.now.kind }
-    requires frames { AreEncoded encoded.old }
-    ensures same { OnOk result (encoded.new ≡ encoded.old) }
-    ensures sent { OnOk result (out.new.items ≡ out.old.items ++ play_bytes
-        (entity_packets entity.now.eid
+    requires frames { AreEncoded encoded.old.encoded }
+    ensures same { encoded.new.encoded ≡ encoded.old.encoded }
+    ensures sent { OnOk result (out.new.items ++ encoded.new.due
+        ≡ (out.old.items ++ encoded.old.due) ++ play_bytes (entity_packets entity.now.eid
         (Some (told_as (kind_of entity.now.kind) (spot.now, pile.now)))
         (told_as (kind_of entity.now.kind) (entity.now.spot, pile_of entity.now.kind)))) }
     ensures now { OnOk result (now.new ≡ with_row now.old (entity_row entity.now)) }
 {
     if !holds(&entity.kind, pile) {
+        encoded.put_due(out)?;
         return put_exchanged(entity, spot, pile, now, out);
     }
     now.put(entity.eid, &entity.spot, pile)?;
@@ -101,7 +102,7 @@ fn put_unknown(
     out: &mut Vec<u8>,
 ) -> Result<(), NoMemory>
     requires kind { IsKind entity.now.kind }
-    requires frames { AreEncoded encoded.now }
+    requires frames { AreEncoded encoded.now.encoded }
     ensures sent { OnOk result (out.new.items
         ≡ out.old.items ++ spawn_bytes (entity_row entity.now)) }
     ensures now { OnOk result (now.new ≡ with_row now.old (entity_row entity.now)) }
@@ -111,7 +112,8 @@ fn put_unknown(
     put_new(encoded, &row, out)
 }
 
-/// Appends what a client that was told something of entities is to be told of one, and keeps that.
+/// Tells a client that was told something of entities what it is to be told of one, and keeps that.
+/// What is sent are the frames that are appended, and those that are due then behind them.
 pub fn put_shown(
     encoded: &mut EncodedLooks<'_>,
     entity: &Entity,
@@ -120,15 +122,19 @@ pub fn put_shown(
     out: &mut Vec<u8>,
 ) -> Result<(), NoMemory>
     requires kind { IsKind entity.now.kind }
-    requires frames { AreEncoded encoded.old }
-    ensures encoded { OnOk result (encoded.new ≡ encoded.old) }
+    requires frames { AreEncoded encoded.old.encoded }
+    ensures encoded { encoded.new.encoded ≡ encoded.old.encoded }
     ensures same { OnOk result (told.new ≡ told.old) }
-    ensures sent { OnOk result (out.new.items
-        ≡ out.old.items ++ play_bytes (row_packets told.old (entity_row entity.now))) }
+    ensures sent { OnOk result (out.new.items ++ encoded.new.due
+        ≡ (out.old.items ++ encoded.old.due)
+        ++ play_bytes (row_packets told.old (entity_row entity.now))) }
     ensures now { OnOk result (now.new ≡ with_row now.old (entity_row entity.now)) }
 {
     match told.find(entity.eid) {
         Some((spot, pile)) => put_known(encoded, entity, spot, pile, now, out),
-        None => put_unknown(encoded, entity, now, out),
+        None => {
+            encoded.put_due(out)?;
+            put_unknown(encoded, entity, now, out)
+        }
     }
 }

@@ -8,6 +8,7 @@
 mod clock;
 mod encoded_entities;
 mod encoded_looks;
+mod encoded_moves;
 mod entities;
 mod known;
 mod moved;

@@ -72,8 +72,8 @@ pub fn moves_piece(alloc: Global, eid: i32, from: &Spot, to: &Spot) -> Result<By
     Ok(Bytes::from_vec(bytes)?)
 }
 
-/// Appends the frames that tell a client that an entity moved from one spot to another: those that
-/// were encoded, where it is that move, by one copy.
+/// Tells a client that an entity moved from one spot to another: the frames that were encoded are
+/// due, where it is that move, and others are appended behind those that are due.
 pub fn put_moves(
     encoded: &mut EncodedLooks<'_>,
     eid: i32,
@@ -81,17 +81,19 @@ pub fn put_moves(
     to: &Spot,
     out: &mut Vec<u8>,
 ) -> Result<(), NoMemory>
-    requires { AreEncoded encoded.old }
-    ensures same { encoded.new ≡ encoded.old }
-    ensures sent { OnOk result (out.new.items
-        ≡ out.old.items ++ play_bytes (moves_packets eid to.now (moves_of from.now to.now))) }
+    requires { AreEncoded encoded.old.encoded }
+    ensures same { encoded.new.encoded ≡ encoded.old.encoded }
+    ensures sent { OnOk result (out.new.items ++ encoded.new.due
+        ≡ (out.old.items ++ encoded.old.due)
+        ++ play_bytes (moves_packets eid to.now (moves_of from.now to.now))) }
 {
     // Most stand still, and need no more than this comparison.
     if *from == *to {
         return Ok(());
     }
-    match encoded.moved(eid, from, to) {
-        Some(frames) => Ok(out.extend_from_slice(frames)?),
-        None => put_own(eid, to, form(*from, *to), out),
+    if encoded.follow(eid, from, to, out)? {
+        return Ok(());
     }
+    encoded.put_due(out)?;
+    put_own(eid, to, form(*from, *to), out)
 }

@@ -9,7 +9,7 @@ use mc_bytes::NoMemory;
 
 /// Where a number stands, or else where it would go.
 #[inline(never)]
-fn place_of<T>(rows: &[(i32, T)], eid: i32) -> Result<usize, usize>
+pub fn place_of<T>(rows: &[(i32, T)], eid: i32) -> Result<usize, usize>
     requires rising { IsRising rows.now }
     ensures found { IfOk result (IsAt rows.now eid) }
     ensures absent { IfErr result (IsGap rows.now eid) }

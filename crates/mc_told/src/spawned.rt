@@ -1,4 +1,4 @@
-//! An entity that is new, as all clients are shown it.
+//! An entity that is new to some client, as all clients are shown it.
 
 ghost use Rattle.std.specs.Prelude.{◌≡◌};
 ghost use Rattle.mc_told.specs.EntityFrames.{is_same_row};
@@ -6,8 +6,7 @@ ghost use Rattle.mc_told.specs.EntityFrames.{is_same_row};
 use crate::row::Row;
 use bytes::Bytes;
 
-/// An entity that came since the last settling, and the frames that show it to a client that does
-/// not know it.
+/// An entity, and the frames that show it to a client that does not know it.
 #[derive(Drop)]
 pub struct Spawned {
     /// The entity.

@@ -102,7 +102,7 @@ pub fn spawn_piece(alloc: Global, row: &Row) -> Result<Bytes, NoMemory>
 /// encoded, where they show it so, by one copy.
 pub fn put_new(encoded: &EncodedLooks<'_>, row: &Row, out: &mut Vec<u8>) -> Result<(), NoMemory>
     requires pile { IsPile row.now.pile }
-    requires frames { AreEncoded encoded.now }
+    requires frames { AreEncoded encoded.now.encoded }
     ensures { OnOk result (out.new.items ≡ out.old.items ++ spawn_bytes row.now) }
 {
     match encoded.spawned(row) {

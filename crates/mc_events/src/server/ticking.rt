@@ -276,7 +276,7 @@ impl Server {
         ensures looks { steps.new ≤ steps.old + tick_looks self.old.game.settled
             self.old.game.game self.old.connections }
     {
-        let mut encoded = start(self.alloc, &self.list, self.game.folk())?;
+        let mut encoded = start(self.alloc, &self.list)?;
         let done = self.show_clients(&mut encoded, steps);
         drop(encoded);
         done?;
@@ -312,6 +312,7 @@ impl Server {
             encoded,
             steps,
         )?;
+        encoded.add_entities(self.alloc, self.game.folk())?;
         encoded.add_lines(self.alloc, self.game.lines())?;
         let scene = Scene {
             game: &self.game,

@@ -2,17 +2,15 @@
 //! built again.
 
 use super::EncodedEntities;
-use crate::moved::Moved;
+use crate::encoded_moves::EncodedMoves;
 use crate::spawned::Spawned;
 use mc_model::every_field;
-use std::collections::BTreeMap;
 
 /// Names every field of encoded entities.
 fn name_fields(encoded: &EncodedEntities) {
     every_field!(encoded: EncodedEntities {
-        moves: Vec<(i32, Moved)>,
-        spawns: BTreeMap<i32, Spawned>,
-        size: usize,
+        moves: EncodedMoves,
+        spawns: Vec<(i32, Spawned)>,
     });
 }
 

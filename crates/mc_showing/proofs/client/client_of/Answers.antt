@@ -1,4 +1,4 @@
-use Rattle.std.proofs.Common.{Option, ap, sym, ◌∙◌}
+use Rattle.std.proofs.Common.{Option, ap}
 use Rattle.std.specs.Prelude.{unwrap_or}
 use Rattle.mc_windows.specs.Pack.{PackValue, kit_pack}
 use Rattle.mc_showing.proofs.client.client_of.Goals as goal

@@ -1,6 +1,6 @@
-use Rattle.std.proofs.Common.{◌≡◌, List, [], refl, rules, sym, subst, ap, ◌∙◌, arith}
+use Rattle.std.proofs.Common.{◌≡◌, [], refl, rules, sym, subst, ap, ◌∙◌, arith}
 use Rattle.std.specs.List.{AllByRecursion}
-use Rattle.mc_land.specs.Places.{IsPlace, Place}
+use Rattle.mc_land.specs.Places.{IsPlace}
 use Rattle.mc_sending.proofs.Pieces.{next_holds}
 use Rattle.mc_showing.specs.Ahead.{with_stayed_changes}
 use Rattle.mc_showing.proofs.LookFacts.{changes_done, changes_next, looks_next, looks_within}

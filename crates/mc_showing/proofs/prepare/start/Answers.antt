@@ -1,12 +1,13 @@
-use Rattle.std.proofs.Common.{ap, ◌∙◌}
-use Rattle.mc_flush.specs.Encoding.{EncodedValue, with_entity_frames, with_players}
+use Rattle.std.proofs.Common.{subst, ◌∙◌}
+use Rattle.mc_flush.specs.Encoding.{AreFrames, with_players}
+use Rattle.mc_flush.specs.Lists.{ListValue}
 use Rattle.mc_showing.proofs.prepare.start.Goals as goal
 
 pub returns-clause-is : goal.returns-clause-is
-returns-clause-is c = c.in_default.ensures.added
-    ∙ ap (λ (e : EncodedValue). with_entity_frames (with_players e c.args.roster.now)
-    c.args.folk.now.state) c.new-encoded.ensures.is
+returns-clause-is c =
+    c.in_default.ensures.ok ∙ (λ i. with_players (c.new-encoded.ensures.is i) (c.list.ensures.is i))
 
 pub returns-clause-frames : goal.returns-clause-frames
 returns-clause-frames c = λ land.
-    c.add_all.ensures.frames land (c.new-encoded.ensures.frames land c.args.roster.now)
+    subst (λ (list : ListValue). AreFrames land list c.add_players.new.self) c.list.ensures.is
+    (c.add_players.ensures.frames land (c.new-encoded.ensures.frames land c.list.result.now))

@@ -1,7 +1,7 @@
-use Rattle.std.proofs.Common.{◌≤◌, ◌+◌, sym, subst, ◌∙◌}
+use Rattle.std.proofs.Common.{◌≤◌, ◌+◌, sym, ap, subst, ◌∙◌}
 use Rattle.std.specs.List.{AllByRecursion}
 use Rattle.std.specs.FinMap.{entries, len}
-use Rattle.mc_flush.specs.Encoding.{AreFrames}
+use Rattle.mc_flush.specs.Encoding.{AreFrames, EncodedValue, with_lines}
 use Rattle.mc_flush.specs.Lists.{ListValue}
 use Rattle.mc_flush.specs.Seeing.{IsNamed}
 use Rattle.mc_model.specs.Game.{Game}
@@ -28,7 +28,8 @@ show_all-requires-clause-scene g c =
       frames = subst (λ (l : ListValue). AreFrames (land_of c.prepare_all.new.game) l
           c.add_lines.new.self) is
           (c.add_lines.ensures.frames (land_of c.prepare_all.new.game) c.self.inside.list
-          (c.prepare_all.ensures.frames c.self.inside.list frames));
+          (c.add_entities.ensures.frames (land_of c.prepare_all.new.game) c.self.inside.list
+          (c.prepare_all.ensures.frames c.self.inside.list frames)));
       young = subst (λ (g : Game). g.age ≤ 1000000000) (sym same.game) young;
     }
 
@@ -39,13 +40,22 @@ returns-clause-looks g c =
     + tick_looks v.game.settled v.game.game v.connections) c.self.view_is
     (round_done old.game c.prepare_all.new.game old.connections c.as_slice.result.now
     c.args.encoded.now c.prepare_all.new.encoded c.add_lines.new.self
-    c.lines.result.now c.args.steps.now c.prepare_all.new.steps c.show_all.new.steps
+    c.folk.result.now.state c.lines.result.now c.args.steps.now c.prepare_all.new.steps c.show_all.new.steps
     c.prepare_all.ensures.same (c.as_slice.ensures.value ∙ c.self.invariant.are)
-    c.in_ok-prepare_all.ensures.prepared c.in_ok-add_lines.ensures.ok
+    c.in_ok-prepare_all.ensures.prepared (c.in_ok-add_lines.ensures.ok
+    ∙ ap (λ (e : EncodedValue). with_lines e c.lines.result.now) c.in_ok-add_entities.ensures.ok)
     c.prepare_all.ensures.bounded c.show_all.ensures.bounded)
 
 pub returns-in_err-prepare_all-clause-looks : goal.returns-in_err-prepare_all-clause-looks
 returns-in_err-prepare_all-clause-looks g c =
+    let old = the_view c.self.inside in
+    subst (λ (v : ServerValue). c.prepare_all.new.steps ≤ c.args.steps.now
+    + tick_looks v.game.settled v.game.game v.connections) c.self.view_is
+    (columns_within old.game.settled old.game.game old.connections c.args.steps.now
+    c.prepare_all.new.steps c.prepare_all.ensures.bounded)
+
+pub returns-in_err-add_entities-clause-looks : goal.returns-in_err-add_entities-clause-looks
+returns-in_err-add_entities-clause-looks g c =
     let old = the_view c.self.inside in
     subst (λ (v : ServerValue). c.prepare_all.new.steps ≤ c.args.steps.now
     + tick_looks v.game.settled v.game.game v.connections) c.self.view_is
@@ -67,6 +77,11 @@ returns-clause-only g c =
 
 pub returns-in_err-prepare_all-clause-only : goal.returns-in_err-prepare_all-clause-only
 returns-in_err-prepare_all-clause-only g c =
+    subst (λ (v : ServerValue). AreMarked v.connections c.self.inside.connections)
+    c.self.view_is (marked_itself c.self.inside.connections)
+
+pub returns-in_err-add_entities-clause-only : goal.returns-in_err-add_entities-clause-only
+returns-in_err-add_entities-clause-only g c =
     subst (λ (v : ServerValue). AreMarked v.connections c.self.inside.connections)
     c.self.view_is (marked_itself c.self.inside.connections)
 

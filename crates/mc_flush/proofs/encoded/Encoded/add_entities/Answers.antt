@@ -15,6 +15,6 @@ returns-clause-frames c = λ land list frames.
       players = all.players;
       loads = all.loads;
       changes = all.changes;
-      entities = c.add_entities.ensures.frames all.entities;
+      entities = c.add_all.ensures.frames all.entities;
       lines = all.lines;
     }

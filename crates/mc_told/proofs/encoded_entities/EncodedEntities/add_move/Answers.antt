@@ -1,7 +1,7 @@
 use Rattle.std.proofs.Common.{◌≡◌, ℕ, List, false, rules, FitsSigned, sym, ap, subst, ◌∙◌}
 use Rattle.std.specs.Int.{w32}
 use Rattle.std.specs.Ordering.{int_cmp}
-use Rattle.std.specs.FinMap.{FinMap, from_entries, from_sorted, insert}
+use Rattle.std.specs.FinMap.{FinMap, from_sorted, insert}
 use Rattle.std.proofs.lemmas.Int.{to_z-of_z}
 use lib.IntN.{ℤ}
 use Rattle.mc_view.specs.Forms.{form_of}
@@ -14,7 +14,7 @@ pub returns-clause-ok : goal.returns-clause-ok
 returns-clause-ok c =
     let e = c.args.entity.now in
     let from = c.args.from.now in
-    let es = c.self.inside.moves.items in
+    let moves = c.self.inside.moves in
     let fits : FitsSigned w32 e.eid = search rules in
     let same = to_z-of_z w32 e.eid fits in
     let goes : is_still (form_of from e.spot) ≡ false = search rules in
@@ -22,12 +22,11 @@ returns-clause-ok c =
     let is : moved ≡ move_of from e =
     ap (λ (frames : List ℕ). record { from = from; to = e.spot; frames = frames })
     (c.in_ok-moves_piece.ensures ∙ ap (λ (k : ℤ). move_bytes k from e.spot) same) in
-    let put : from_sorted {R = int_cmp} c.put_row.new.rows.items
-    ≡ insert (from_sorted es) e.eid (move_of from e) =
-    c.in_ok-put_row.ensures.ok ∙ (λ i. insert (from_sorted es) (same i) (is i)) in
+    let put : c.put.new.self ≡ insert moves e.eid (move_of from e) =
+    c.in_ok-put.ensures.ok ∙ (λ i. insert moves (same i) (is i)) in
     ap (λ (m : FinMap int_cmp Moved). record {
       moves = m;
-      spawns = from_entries c.self.inside.spawns.entries;
+      spawns = from_sorted c.self.inside.spawns.items;
     }) put
     ∙ ap (λ (v : EntitiesValue). record v { moves = insert v.moves e.eid (move_of from e) })
     c.self.view_is

@@ -1,8 +1,7 @@
 use Rattle.std.proofs.Common.{◌≡◌, List, ◌∙◌, ap, sym, subst}
 use Rattle.std.specs.Ordering.{int_cmp}
-use Rattle.std.specs.FinMap.{from_entries, from_sorted}
+use Rattle.std.specs.FinMap.{from_sorted}
 use lib.IntN.{ℤ}
-use Rattle.mc_told.specs.declared.moved.Moved.{Moved}
 use Rattle.mc_told.specs.declared.spawned.Spawned.{Spawned}
 use Rattle.mc_told.specs.EntityFrames.{AreEncoded}
 use Rattle.mc_told.proofs.EntityFrames.{none_encoded}
@@ -11,11 +10,9 @@ use Rattle.mc_told.proofs.encoded_entities.EncodedEntities.new.Goals as goal
 
 pub returns-clause-is : goal.returns-clause-is
 returns-clause-is c =
-    let moves : from_sorted {R = int_cmp} c.new.result.items ≡ _ =
-    ap (λ (es : List (ℤ × Moved)). from_sorted {R = int_cmp} es) c.new.ensures.items ∙ none_kept in
-    let spawns = ap (λ (es : List (ℤ × Spawned)). from_entries {R = int_cmp} es)
-    c.new-2.ensures.empty in
-    λ i. record { moves = moves i; spawns = spawns i }
+    let spawns : from_sorted {R = int_cmp} c.new-2.result.items ≡ _ =
+    ap (λ (es : List (ℤ × Spawned)). from_sorted {R = int_cmp} es) c.new-2.ensures.items ∙ none_kept in
+    λ i. record { moves = c.new.ensures i; spawns = spawns i }
 
 pub returns-clause-frames : goal.returns-clause-frames
 returns-clause-frames c = subst AreEncoded (sym (returns-clause-is c)) none_encoded

@@ -1,18 +1,15 @@
-use Rattle.std.proofs.Common.{◌∙◌, ap}
-use Rattle.std.specs.Int.{w32}
-use Rattle.std.specs.Ordering.{int_cmp}
-use Rattle.std.specs.FinMap.{from_entries, get}
-use Rattle.std.proofs.lemmas.Cmp.{int_cmp_total}
-use Rattle.std.proofs.lemmas.Int.{to_z-of_z}
-use lib.IntN.{ℤ}
-use mir.Val.{to_z, of_z}
-use Rattle.mc_bytes.proofs.Trees.{tree_get}
+use Rattle.std.proofs.Common.{rules, ◌≡◌, get_or}
+use Rattle.mc_told.proofs.KeptRows.{got_at, got_gap}
 use Rattle.mc_told.proofs.encoded_entities.EncodedEntities.spawn_of.Goals as goal
 
-pub returns : goal.returns
-returns c =
-    let es = c.self.inside.spawns.entries in
-    let eid = c.args.eid in
-    rw (← c.self.view_is) (c.get.ensures.value
-    ∙ tree_get int_cmp_total (to_z w32 (of_z w32 eid)) es
-    ∙ ap (λ (k : ℤ). get (from_entries {R = int_cmp} es) k) (to_z-of_z w32 eid c.ranges.eid))
+pub returns-in-Ok : goal.returns-in-Ok
+returns-in-Ok c =
+    let es = c.self.inside.spawns.items in
+    let was = c.index.result.now in
+    let read : was ≡ get_or es c.in-Ok.at was = search rules in
+    rw (← c.self.view_is)
+    (got_at es c.args.eid c.in-Ok.at was c.self.invariant (search rules) read)
+
+pub returns-in-Err : goal.returns-in-Err
+returns-in-Err c = rw (← c.self.view_is)
+    (got_gap c.self.inside.spawns.items c.args.eid c.in-Err.field-0 c.self.invariant (search rules))
